@@ -12,7 +12,7 @@ use Rattle.mm_program.specs.ProgramKept.{HasServed}
 module _ {S C P U : Type 0} (is_space : S → Bool) (calls_on : S → Plan) (hand : P → Hand) (past spun : P → List Moment) (idle : S → P → Type 0) (looked_back : S → P → ℕ → Type 0) (knows_past : S → P → Type 0) where
   -- also where its results were lent since, and came back as they were
   pub has_served : (script : Listing) (opened ran left : Machine S C P U) → IsMachineOf is_space calls_on script opened → HasRun idle hand past is_space calls_on opened ran → (results : HasLegalResults hand script ran)
-      → IsAtRest idle ran → KnowsPasts knows_past ran → GoBackToTasks looked_back spun calls_on ran → left ≡ ran → HasServed is_space calls_on hand past spun idle looked_back knows_past script results.told left
+      → IsAtRest idle ran → KnowsPasts knows_past ran → GoBackToTasks looked_back past spun calls_on ran → left ≡ ran → HasServed is_space calls_on hand past spun idle looked_back knows_past script results.told left
   has_served script opened ran left of run results rest past_known tasks same =
       subst (λ (m : Machine S C P U). HasServed is_space calls_on hand past spun idle looked_back knows_past script results.told m) (sym same) (record {
         of = subst (λ (sites : List S). AreSitesOf is_space calls_on script sites) (sym run.sites) of;

@@ -10,7 +10,7 @@ use Rattle.mm_serve.specs.declared.space_or_table.SpaceOrTable.TheVariants.{Spac
 use Rattle.mm_serve.specs.declared.space_or_table.SpaceOrTablePass.{SpaceOrTablePass}
 use Rattle.mm_serve.specs.declared.space_or_table.SpaceOrTablePass.TheVariants.{OfSpace, OfTable}
 use Rattle.mm_serve.specs.MachineQueues.{GoesBackToTask}
-use Rattle.mm_serve.specs.UnderLocks.{HasLookedBackUnder, KnowsPastUnder, LockedObject, spun_under}
+use Rattle.mm_serve.specs.UnderLocks.{HasLookedBackUnder, KnowsPastUnder, LockedObject, past_under, spun_under}
 use Rattle.mm_program.specs.ProgramKept.{HasServedUnder, LockedMachine}
 
 -- such locks, which tell this
@@ -32,14 +32,14 @@ module _ {A S R X P E C T F G Y Q H D : Type 0} (spaces : LockMembers A P) (tabl
 
   look-under : (s : LockedObject A S R X P E C T F G Y Q H D) (p : SpaceOrTablePass P Q) (t : ℕ) → HasLookedBackUnder spaces tables s p t
       → HasLookedBackUnder (telling spaces space_tells space_queue) (telling tables table_tells table_queue) s p t
-  look-under (Space s) (OfSpace p) t h = record { own = h.own; serving = h.serving; all = h.all; queue = of_space _ _ _ h.queue }
+  look-under (Space s) (OfSpace p) t h = record { own = h.own; serving = h.serving; all = h.all; last = h.last; queue = of_space _ _ _ h.queue }
   look-under (Space s) (OfTable p) t h = h
   look-under (Table s) (OfSpace p) t h = h
-  look-under (Table s) (OfTable p) t h = record { own = h.own; serving = h.serving; all = h.all; queue = of_table _ _ _ h.queue }
+  look-under (Table s) (OfTable p) t h = record { own = h.own; serving = h.serving; all = h.all; last = h.last; queue = of_table _ _ _ h.queue }
 
-  task-under : (s : LockedObject A S R X P E C T F G Y Q H D) (t : ℕ) (past : List Moment) → GoesBackToTask (HasLookedBackUnder spaces tables) (spun_under spaces tables) s t past
-      → GoesBackToTask (HasLookedBackUnder (telling spaces space_tells space_queue) (telling tables table_tells table_queue)) (spun_under spaces tables) s t past
-  task-under s t past g = record { pass = g.pass; looked = look-under s g.pass t g.looked; goes_on = g.goes_on }
+  task-under : (s : LockedObject A S R X P E C T F G Y Q H D) (t : ℕ) (p : SpaceOrTablePass P Q) → GoesBackToTask (HasLookedBackUnder spaces tables) (past_under spaces tables) (spun_under spaces tables) s t p
+      → GoesBackToTask (HasLookedBackUnder (telling spaces space_tells space_queue) (telling tables table_tells table_queue)) (past_under spaces tables) (spun_under spaces tables) s t p
+  task-under s t p g = record { pass = g.pass; looked = look-under s g.pass t g.looked; table = g.table; queue = g.queue }
 
   module _ {B U : Type 0} where
     pub served-under : (script : Listing) (told : List Told) (m : LockedMachine A S R X P E C T F G Y Q H D B U) → HasServedUnder spaces tables script told m

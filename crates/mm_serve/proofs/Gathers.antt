@@ -48,28 +48,28 @@ module _ {S P : Type 0} (idle : S → P → Type 0) (takes_up : P → P → Type
       ))
 
 -- what is taken up by one pass is taken up by whoever takes up that one
-pub on : {P : Type 0} (hand : P → Hand) (spun : P → List Moment) (p q r : P) → TakesUp hand spun p q → TakesUp hand spun q r → TakesUp hand spun p r
-on hand spun p q r a b = ((λ e x knows. b.0 e x (a.0 e x knows)), (λ past t. b.1 past (a.1 past t)))
+pub on : {P : Type 0} (hand : P → Hand) (past spun : P → List Moment) (p q r : P) → TakesUp hand past spun p q → TakesUp hand past spun q r → TakesUp hand past spun p r
+on hand past spun p q r a b = ((λ e x knows. b.0 e x (a.0 e x knows)), (λ ms t. b.1 ms (a.1 ms t)), (λ ms t. b.2 ms (a.2 ms t)))
 
-module _ {S P : Type 0} (idle : S → P → Type 0) (hand : P → Hand) (looked_back : S → P → ℕ → Type 0) (spun : P → List Moment) where
+module _ {S P : Type 0} (idle : S → P → Type 0) (hand : P → Hand) (looked_back : S → P → ℕ → Type 0) (past spun : P → List Moment) where
   done-more : (b : Bool) (k : Plan) (h g : Hand) (t : ℕ) → KnowsMore h g → HasDoneOn b k h t → HasDoneOn b k g t
   done-more true k h g t more d = (d.0, record { exact = d.1.exact; known = λ c r at. more (record { task = t; call = c }) r (d.1.known c r at) }, d.2)
   done-more false k h g t more d = (d.0, record { exact = d.1.exact; known = λ c r at. more (record { task = t; call = c }) r (d.1.known c r at) }, d.2)
 
-  pub runs : {C : Type 0} (is_space : S → Bool) (calls_on : S → Plan) (sites : List S) (ws after : List (Worker C P)) (news : List P) → ((k : ℕ) (s : S) → slice_get sites k ≡ Some s → length (calls_on s) ≡ length ws) → AreNumbered ws → HaveDoneTheirTasks idle hand looked_back spun is_space calls_on sites ws after
-      → EachOf (λ k s p. idle s p × KnowsFrom (TakesUp hand spun) 0 after k p) sites news → EachOf (λ k s p. idle s p × KnowsAllDone hand is_space calls_on s p) sites news × EachOf (λ k s p. GoesBackToTasks looked_back spun calls_on s p) sites news
+  pub runs : {C : Type 0} (is_space : S → Bool) (calls_on : S → Plan) (sites : List S) (ws after : List (Worker C P)) (news : List P) → ((k : ℕ) (s : S) → slice_get sites k ≡ Some s → length (calls_on s) ≡ length ws) → AreNumbered ws → HaveDoneTheirTasks idle hand looked_back past spun is_space calls_on sites ws after
+      → EachOf (λ k s p. idle s p × KnowsFrom (TakesUp hand past spun) 0 after k p) sites news → EachOf (λ k s p. idle s p × KnowsAllDone hand is_space calls_on s p) sites news × EachOf (λ k s p. GoesBackToTasks looked_back past spun calls_on s p) sites news
   runs {C} is_space calls_on sites ws after news tasks numbered done each = (
-    each-map (λ k s p. idle s p × KnowsFrom (TakesUp hand spun) 0 after k p) (λ k s p. idle s p × KnowsAllDone hand is_space calls_on s p) sites news each
+    each-map (λ k s p. idle s p × KnowsFrom (TakesUp hand past spun) 0 after k p) (λ k s p. idle s p × KnowsAllDone hand is_space calls_on s p) sites news each
         (λ k s p lt at r. (
           r.0,
           (λ t l. let one = of k s p lt at r t l in done-more (is_space s) (calls_on s) (hand one.0) (hand p) t one.1.0 one.2.0),
         )),
-    each-map (λ k s p. idle s p × KnowsFrom (TakesUp hand spun) 0 after k p) (λ k s p. GoesBackToTasks looked_back spun calls_on s p) sites news each
-        (λ k s p lt at r t l. let one = of k s p lt at r t l in record { pass = one.2.1.pass; looked = one.2.1.looked; goes_on = λ past e. one.1.1 past (one.2.1.goes_on past e) }),
+    each-map (λ k s p. idle s p × KnowsFrom (TakesUp hand past spun) 0 after k p) (λ k s p. GoesBackToTasks looked_back past spun calls_on s p) sites news each
+        (λ k s p lt at r t l. let one = of k s p lt at r t l in record { pass = one.2.1.pass; looked = one.2.1.looked; table = λ ms e. one.1.1 ms (one.2.1.table ms e); queue = λ ms e. one.1.2 ms (one.2.1.queue ms e) }),
   )
     where
       -- the pass of a task's worker, once it has done the task's calls
-      of : (k : ℕ) (s : S) (p : P) → k < length sites → slice_get sites k ≡ Some s → idle s p × KnowsFrom (TakesUp hand spun) 0 after k p → (t : ℕ) → t < length (calls_on s) → (q : P) × TakesUp hand spun q p × (HasDoneOn (is_space s) (calls_on s) (hand q) t × GoesBackToTask looked_back spun s t (spun q))
+      of : (k : ℕ) (s : S) (p : P) → k < length sites → slice_get sites k ≡ Some s → idle s p × KnowsFrom (TakesUp hand past spun) 0 after k p → (t : ℕ) → t < length (calls_on s) → (q : P) × TakesUp hand past spun q p × (HasDoneOn (is_space s) (calls_on s) (hand q) t × GoesBackToTask looked_back past spun s t q)
       of k s p lt at r t l =
           let many = tasks k s at in
           let inside : t < length ws = omega (arith, l, many) in
@@ -79,5 +79,5 @@ module _ {S P : Type 0} (idle : S → P → Type 0) (hand : P → Hand) (looked_
           let there : t < length after = omega (arith, inside, done.0) in
           let q = get_or (get_or after t d).passes.items k p in
           let here = did.passes.1 k s p lt in
-          let all = subst (λ (z : S). HasDoneOn (is_space z) (calls_on z) (hand q) (get_or after t d).task × GoesBackToTask looked_back spun z (get_or after t d).task (spun q)) (get-some sites k s at) (here.1, here.2) in
-          (q, r.1 t d p (omega arith) there, subst (λ (u : ℕ). HasDoneOn (is_space s) (calls_on s) (hand q) u × GoesBackToTask looked_back spun s u (spun q)) task all)
+          let all = subst (λ (z : S). HasDoneOn (is_space z) (calls_on z) (hand q) (get_or after t d).task × GoesBackToTask looked_back past spun z (get_or after t d).task q) (get-some sites k s at) (here.1, here.2) in
+          (q, r.1 t d p (omega arith) there, subst (λ (u : ℕ). HasDoneOn (is_space s) (calls_on s) (hand q) u × GoesBackToTask looked_back past spun s u q) task all)

@@ -72,9 +72,9 @@ module _ {S C P U : Type 0} where
     pub legal : AreLegal script (results_of m) told
     pub known : AreAllKnown hand (gathered_of m) told
 
-  -- the gathered pass of each object goes back to a look of a pass with each task's number on the spin queue of the object's lock
-  abbrev pub GoBackToTasks : (looked_back : S → P → ℕ → Type 0) → (spun : P → List Moment) → (S → Plan) → Machine S C P U → Type 0
-  GoBackToTasks looked_back spun calls_on m = EachOf (λ k s p. GoesBackToTasks looked_back spun calls_on s p) (sites_of m) (gathered_of m)
+  -- the gathered pass of each object goes back to all that a pass with each task's number did on the object's table and on the spin queue of its lock, until it looked back behind all the task's calls
+  abbrev pub GoBackToTasks : (looked_back : S → P → ℕ → Type 0) → (past spun : P → List Moment) → (S → Plan) → Machine S C P U → Type 0
+  GoBackToTasks looked_back past spun calls_on m = EachOf (λ k s p. GoesBackToTasks looked_back past spun calls_on s p) (sites_of m) (gathered_of m)
 
   -- no gathered pass has a task's number or owes anything
   abbrev pub IsAtRest : (S → P → Type 0) → Machine S C P U → Type 0

@@ -48,7 +48,7 @@ module _ {A S R X P E C T F G Y Q H D : Type 0} (spaces : LockMembers A P) (tabl
       (λ s p. KnowsPast space spaces.kind 257 spaces.word_at spaces.waits spaces.tells spaces.opened (spaces.calls_on (lock_of s)) (spaces.view p) × spaces.tells_queue (spaces.calls_on (lock_of s)) (spaces.view p) (spaces.spun p))
       (λ s p. KnowsPast table tables.kind 64 tables.word_at tables.waits tables.tells tables.opened (tables.calls_on (lock_of s)) (tables.view p) × tables.tells_queue (tables.calls_on (lock_of s)) (tables.view p) (tables.spun p))
 
-  -- The pass has the task's number, and all the task's calls are recorded. It knows what the lock tells of its spin queue, up to its own last step there.
+  -- The pass has the task's number, and by its own last step all the task's calls were recorded. It knows what the lock tells of its spin queue, up to its own last step there.
   abbrev pub HasLookedBackUnder : LockedObject A S R X P E C T F G Y Q H D → SpaceOrTablePass P Q → ℕ → Type 0
   HasLookedBackUnder site pass task =
       Matches

@@ -28,9 +28,9 @@ calls_to k objects = count_by (λ object. object == k) objects
 abbrev pub KnowsMore : Hand → Hand → Type 0
 KnowsMore old new = (e : Entry) (r : Rec) → Knows old e r → Knows new e r
 
--- beside that, the second goes back to all that the first did on the spin queue of the object's lock
-abbrev pub TakesUp : {P : Type 0} → (P → Hand) → (spun : P → List Moment) → P → P → Type 0
-TakesUp hand spun p q = KnowsMore (hand p) (hand q) × GoesOn (spun p) (spun q)
+-- beside that, the second goes back to all that the first did on the object's table and on the spin queue of its lock
+abbrev pub TakesUp : {P : Type 0} → (P → Hand) → (past spun : P → List Moment) → P → P → Type 0
+TakesUp hand past spun p q = KnowsMore (hand p) (hand q) × GoesOn (past p) (past q) × GoesOn (spun p) (spun q)
 
 module _ {P Q S : Type 0} (idle : S → Q → Type 0) (hand : Q → Hand) (calls_on : S → Plan) (sites : List S) where
   -- its task is one of each object's plan, it has as many calls on each object as the plan has of the task, and its passes are idle and have seen no entry
@@ -40,11 +40,11 @@ module _ {P Q S : Type 0} (idle : S → Q → Type 0) (hand : Q → Hand) (calls
     pub calls : (k : ℕ) (s : S) → slice_get sites k ≡ Some s → length (row (calls_on s) w.task) ≡ calls_to k w.objects.items
     pub passes : HaveSeenNothing idle hand sites w.passes.items
 
-module _ {P Q S : Type 0} (idle : S → Q → Type 0) (hand : Q → Hand) (looked_back : S → Q → ℕ → Type 0) (spun : Q → List Moment) (is_space : S → Bool) (calls_on : S → Plan) (sites : List S) where
-  -- it has done all calls of its task, and has then looked back at the spin queue of each object's lock
+module _ {P Q S : Type 0} (idle : S → Q → Type 0) (hand : Q → Hand) (looked_back : S → Q → ℕ → Type 0) (past spun : Q → List Moment) (is_space : S → Bool) (calls_on : S → Plan) (sites : List S) where
+  -- it has done all calls of its task, and has then looked back at each object's table and at the spin queue of its lock
   pub record HasDoneItsTask (old new : Worker P Q) : Type 0 where
     pub task : new.task ≡ old.task
-    pub passes : EachOf (λ k s p. idle s p × HasDoneOn (is_space s) (calls_on s) (hand p) new.task × GoesBackToTask looked_back spun s new.task (spun p)) sites new.passes.items
+    pub passes : EachOf (λ k s p. idle s p × HasDoneOn (is_space s) (calls_on s) (hand p) new.task × GoesBackToTask looked_back past spun s new.task p) sites new.passes.items
 
   -- each of them has
   abbrev pub HaveDoneTheirTasks : (olds news : List (Worker P Q)) → Type 0

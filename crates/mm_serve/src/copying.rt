@@ -26,6 +26,9 @@ pub(crate) fn snapshot_all<S: SharedObject, W: Wait, C: Crew>(
     ensures copied { EachOf (IsCopied S.idle S.hand S.past S.is_space S.calls_on results.new)
         sites.now gathered.new.items }
     ensures long { length results.new ≡ length sites.now }
+    ensures goes_on { (k : ℕ) (p : S.Pass) →
+        GoesOn (S.past (slice_index_or gathered.old.items k p))
+        (S.past (slice_index_or gathered.new.items k p)) }
     ensures queues { (k : ℕ) (p : S.Pass) →
         GoesOn (S.spun (slice_index_or gathered.old.items k p))
         (S.spun (slice_index_or gathered.new.items k p)) }

@@ -12,7 +12,7 @@ fn gather_passes<S: SharedObject>(
 )
     requires gathered { EachOf (λ k s p. S.idle s p) sites.now gathered.old.items }
     requires passes { EachOf (λ k s p. S.idle s p) sites.now passes.items }
-    ensures { HaveGathered S.idle (TakesUp S.hand S.spun) 0 sites.now gathered.old.items
+    ensures { HaveGathered S.idle (TakesUp S.hand S.past S.spun) 0 sites.now gathered.old.items
         passes.items gathered.new.items }
 {
     while let Some(pass) = passes.pop() {
@@ -30,7 +30,7 @@ pub(crate) fn gather_all<S: SharedObject, P: Drop>(
     requires gathered { EachOf (λ k s p. S.idle s p) sites.now gathered.old.items }
     requires workers { AllIdle S.idle sites.now workers.items }
     ensures { EachOf (λ k s p. S.idle s p ×
-        KnowsFrom (TakesUp S.hand S.spun) 0 workers.items k p) sites.now gathered.new.items }
+        KnowsFrom (TakesUp S.hand S.past S.spun) 0 workers.items k p) sites.now gathered.new.items }
 {
     while let Some(worker) = workers.pop() {
         let Worker {

@@ -102,8 +102,8 @@ where
 
     /// Does all tasks at once, each on a thread of its own, and takes a snapshot of each object
     /// when all are done. The results are legal histories of the machine's script. Then looks back
-    /// at each object's table, after which each gathered pass knows what was so at every step. What
-    /// it knows of the lock's spin queue goes back to what each task did there.
+    /// at each object's table, after which each gathered pass knows what was so at every step. It
+    /// goes back to what each task did on the table and on the lock's spin queue.
     ///
     /// Where a thread can't be made, its task is done by another task's thread after that one's
     /// own, so tasks that wait for each other can then wait for good.
@@ -114,7 +114,7 @@ where
             HasLegalResults S.hand script self.new }
         ensures rest { IsAtRest S.idle self.new }
         ensures past { KnowsPasts S.knows_past self.new }
-        ensures tasks { GoBackToTasks S.looked_back S.spun S.calls_on self.new }
+        ensures tasks { GoBackToTasks S.looked_back S.past S.spun S.calls_on self.new }
     {
         let none = Vec::new(*self.workers.allocator());
         let workers = mem::replace(&mut self.workers, none);

@@ -77,7 +77,7 @@ pub(crate) fn perform<O: Served + Drop, L: SleepLock<O>, W: Wait, C: Crew, G: Ga
     guarded.perform(rt, pass, cpu, crew, gate, call);
 }
 
-/// Looks back at the spin queue, and gives the task's number back.
+/// Looks back at the table and at the spin queue, and gives the task's number back.
 pub(crate) fn end<O: Served + Drop, L: SleepLock<O>>(
     guarded: &Guarded<L, O>,
     pass: &mut L::Pass,
@@ -92,13 +92,15 @@ pub(crate) fn end<O: Served + Drop, L: SleepLock<O>>(
     ensures idle { IsIdle (L.view pass.new).hand }
     ensures done { HasDoneAll O.object (unavailable L.kind) (L.calls_on (lock_of guarded.now))
         (L.view pass.new).hand task }
-    ensures queue { GoesBackToTask
+    ensures looks { GoesBackToTask
         (λ at its t. HasLookedBack O.object L.kind (L.sits (lock_of at) its) L.tells_queue
         (L.calls_on (lock_of at)) (L.view its) (L.spun its) t)
-        L.spun guarded.now task (L.spun pass.new) }
+        (λ its. (L.view its).past) L.spun guarded.now task pass.new }
 {
     let _ = task;
-    // Its own look ties its calls to the queue: whoever gathers the pass goes back to this moment.
+    // Its own looks tie its calls to the table and to the queue: whoever gathers the pass goes back
+    // to these moments.
+    guarded.recall(pass);
     guarded.recall_queue(pass);
     guarded.end(pass);
 }
@@ -124,6 +126,7 @@ pub(crate) fn snapshot<O: Served + Drop, L: SleepLock<O>, W: Wait, C: Crew>(
     ensures copied { IsKnownHistory O.object (unavailable L.kind)
         (L.calls_on (lock_of guarded.now)) (L.view pass.new).hand out.new }
     ensures held { WasHeldWith out.new (L.view pass.new).hand.records (L.view pass.new).past }
+    ensures goes_on { GoesOn (L.view pass.old).past (L.view pass.new).past }
     ensures queue { GoesOn (L.spun pass.old) (L.spun pass.new) }
 {
     guarded.begin(rt, pass, 0);

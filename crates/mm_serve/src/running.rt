@@ -35,7 +35,7 @@ where
         length (S.calls_on s) ≡ length workers.items }
     ensures done { EachOf (λ k s p. S.idle s p × KnowsAllDone S.hand S.is_space S.calls_on s p)
         sites.now gathered.new.items }
-    ensures tasks { EachOf (λ k s p. GoesBackToTasks S.looked_back S.spun S.calls_on s p)
+    ensures tasks { EachOf (λ k s p. GoesBackToTasks S.looked_back S.past S.spun S.calls_on s p)
         sites.now gathered.new.items }
 {
     serve_all(context, sites, workers.as_mut_slice());
@@ -65,7 +65,7 @@ where
         sites.now gathered.new.items }
     ensures long { length results.new ≡ length sites.now }
     ensures past { KnowPasts S.knows_past sites.now gathered.new.items }
-    ensures tasks { EachOf (λ k s p. GoesBackToTasks S.looked_back S.spun S.calls_on s p)
+    ensures tasks { EachOf (λ k s p. GoesBackToTasks S.looked_back S.past S.spun S.calls_on s p)
         sites.now gathered.new.items }
 {
     serve_and_gather(context, sites, gathered, workers);

@@ -42,8 +42,9 @@ pub trait SharedObject: Sized {
     // records of all calls that the task has done.
     ghost serving: { Self → Self.Pass → (task : ℕ) → Type 0 };
 
-    // The pass is one of this object's. It has this task's number, all the task's calls are recorded,
-    // and it knows what was so of the lock's spin queue at each moment up to its last step there.
+    // The pass is one of this object's. It has this task's number, and by its last step all the
+    // task's calls were recorded. It knows what was so of the lock's spin queue at each moment up
+    // to its last step there.
     ghost looked_back: { Self → Self.Pass → (task : ℕ) → Type 0 };
 
     // The pass knows what was so of the object's table at each moment so far.
@@ -91,14 +92,14 @@ pub trait SharedObject: Sized {
         ensures own { serving self.now pass.new task }
         ensures done { (hand pass.new).done ≡ (hand pass.old).done + 1 };
 
-    /// Looks back at the lock's spin queue and gives the task's number back, when all its calls are
-    /// done.
+    /// Looks back at the object's table and at the lock's spin queue, and gives the task's number
+    /// back, when all its calls are done.
     fn end(&self, pass: &mut Self::Pass, task: u32)
         requires own { serving self.now pass.old task }
         requires all { (hand pass.old).done ≡ length (row (calls_on self.now) task) }
         ensures own { idle self.now pass.new }
         ensures done { HasDoneOn (is_space self.now) (calls_on self.now) (hand pass.new) task }
-        ensures queue { GoesBackToTask looked_back spun self.now task (spun pass.new) };
+        ensures looks { GoesBackToTask looked_back past spun self.now task pass.new };
 
     /// Takes in what another pass knows, which is spent.
     fn gather(&self, into: &mut Self::Pass, other: Self::Pass)
@@ -106,6 +107,8 @@ pub trait SharedObject: Sized {
         ensures own { idle self.now into.new }
         ensures kept { KnowsMore (hand into.old) (hand into.new) }
         ensures taken { KnowsMore (hand other) (hand into.new) }
+        ensures goes_on { GoesOn (past into.old) (past into.new) }
+        ensures others_past { GoesOn (past other) (past into.new) }
         ensures queue { GoesOn (spun into.old) (spun into.new) }
         ensures others_queue { GoesOn (spun other) (spun into.new) };
 
@@ -126,6 +129,7 @@ pub trait SharedObject: Sized {
         ensures copied { IsKnownHistoryOn (is_space self.now) (calls_on self.now)
             (hand pass.new) out.new }
         ensures held { WasHeldWith out.new (hand pass.new).records (past pass.new) }
+        ensures goes_on { GoesOn (past pass.old) (past pass.new) }
         ensures queue { GoesOn (spun pass.old) (spun pass.new) };
 
     /// Looks at the object's table, after which the pass knows its past.

@@ -58,13 +58,13 @@ fn perform_all<S: SharedObject, W: Wait, C: Crew, G: Gate>(
     }
 }
 
-/// Looks back at the spin queues, and gives the task's numbers back.
+/// Looks back at the tables and at the spin queues, and gives the task's numbers back.
 fn end_all<S: SharedObject>(sites: &[S], passes: &mut Vec<S::Pass>, task: u32)
     requires passes { EachOf (λ k s p. S.serving s p task ×
         ((S.hand p).done ≡ length (row (S.calls_on s) task))) sites.now passes.old.items }
     ensures { EachOf (λ k s p. S.idle s p ×
         HasDoneOn (S.is_space s) (S.calls_on s) (S.hand p) task ×
-        GoesBackToTask S.looked_back S.spun s task (S.spun p)) sites.now passes.new.items }
+        GoesBackToTask S.looked_back S.past S.spun s task p) sites.now passes.new.items }
 {
     for object in 0..sites.len() {
         sites[object].end(&mut passes[object], task);
@@ -78,7 +78,7 @@ pub(crate) fn serve<S: SharedObject, W: Wait, C: Crew, G: Gate>(
     worker: &mut Worker<C::C, S::Pass>,
 )
     requires ready { IsReady S.idle S.hand S.calls_on sites.now worker.old }
-    ensures { HasDoneItsTask S.idle S.hand S.looked_back S.spun S.is_space S.calls_on
+    ensures { HasDoneItsTask S.idle S.hand S.looked_back S.past S.spun S.is_space S.calls_on
         sites.now worker.old worker.new }
 {
     begin_all(context.rt, sites, &mut worker.passes, worker.task);
@@ -105,7 +105,7 @@ where
     S::Pass: Send,
     C::C: Send,
     requires { All (IsReady S.idle S.hand S.calls_on sites.now) workers.old }
-    ensures { HaveDoneTheirTasks S.idle S.hand S.looked_back S.spun S.is_space S.calls_on
+    ensures { HaveDoneTheirTasks S.idle S.hand S.looked_back S.past S.spun S.is_space S.calls_on
         sites.now workers.old workers.new }
 {
     // With fewer threads than tasks, two that wait for each other could share one.
@@ -116,7 +116,7 @@ where
         threads,
         &|_, worker: &mut Worker<C::C, S::Pass>|
             requires { IsReady S.idle S.hand S.calls_on sites.now worker.old }
-            ensures { HasDoneItsTask S.idle S.hand S.looked_back S.spun S.is_space S.calls_on
+            ensures { HasDoneItsTask S.idle S.hand S.looked_back S.past S.spun S.is_space S.calls_on
                 sites.entry.now worker.old worker.new }
         { serve(context, sites, worker) },
     );

@@ -32,5 +32,8 @@ returns-clause-held g c =
       goes_on = λ p t. c.end.ensures.on.goes_on p (copies.goes_on p t);
     }
 
+pub returns-clause-goes_on : goal.returns-clause-goes_on
+returns-clause-goes_on g c = λ p t. c.end.ensures.on.goes_on p (c.snapshot.ensures.on.goes_on p (c.begin.ensures.on.goes_on p t))
+
 pub returns-clause-queue : goal.returns-clause-queue
 returns-clause-queue g c = λ p t. c.end.ensures.queue p (c.snapshot.ensures.queue p (c.begin.ensures.queue p t))

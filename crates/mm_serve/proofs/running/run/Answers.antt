@@ -20,5 +20,5 @@ returns-clause-copied g c =
 pub returns-clause-tasks : goal.returns-clause-tasks
 returns-clause-tasks g c = let was = c.serve_and_gather.ensures.tasks in (
   c.recall_all.ensures.rest.0,
-  (λ k s p lt t l. let one = was.1 k s p lt t l in record { pass = one.pass; looked = one.looked; goes_on = λ past e. c.recall_all.ensures.queues k p past (c.snapshot_all.ensures.queues k p past (one.goes_on past e)) }),
+  (λ k s p lt t l. let one = was.1 k s p lt t l in record { pass = one.pass; looked = one.looked; table = λ ms e. c.recall_all.ensures.goes_on k p ms (c.snapshot_all.ensures.goes_on k p ms (one.table ms e)); queue = λ ms e. c.recall_all.ensures.queues k p ms (c.snapshot_all.ensures.queues k p ms (one.queue ms e)) }),
 )

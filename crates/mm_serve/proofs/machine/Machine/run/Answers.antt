@@ -33,4 +33,4 @@ pub returns-clause-past : goal.returns-clause-past
 returns-clause-past g c = subst (λ (sites : List g.row.S.Denot). KnowPasts g.S.SharedObject.knows_past sites c.run.new.gathered.items) c.as_slice.ensures.value c.run.ensures.past
 
 pub returns-clause-tasks : goal.returns-clause-tasks
-returns-clause-tasks g c = subst (λ (sites : List g.row.S.Denot). EachOf (λ k s p. GoesBackToTasks g.S.SharedObject.looked_back g.S.SharedObject.spun g.S.SharedObject.calls_on s p) sites c.run.new.gathered.items) c.as_slice.ensures.value c.run.ensures.tasks
+returns-clause-tasks g c = subst (λ (sites : List g.row.S.Denot). EachOf (λ k s p. GoesBackToTasks g.S.SharedObject.looked_back g.S.SharedObject.past g.S.SharedObject.spun g.S.SharedObject.calls_on s p) sites c.run.new.gathered.items) c.as_slice.ensures.value c.run.ensures.tasks

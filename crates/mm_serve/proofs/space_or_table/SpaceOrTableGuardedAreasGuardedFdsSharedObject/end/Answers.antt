@@ -12,12 +12,12 @@ returns-clause-done g c = elim c.match-self.branch [
   | in-Table-OfTable w ↦ rw (w.in-Table-OfTable.is-0, w.pass-is) (done-of table g.T.SleepLock.kind mutex g.met.T.OwnerLock.owned (g.T.SiteLock.calls_on w.in-Table-OfTable.site.lock) (g.T.SiteLock.view w.end-in-Table-OfTable.new.pass).hand c.args.task w.end-in-Table-OfTable.ensures.done)
 ]
 
-pub returns-clause-queue : goal.returns-clause-queue
-returns-clause-queue g c = elim c.match-self.branch [
+pub returns-clause-looks : goal.returns-clause-looks
+returns-clause-looks g c = elim c.match-self.branch [
   | in-Space-OfSpace w ↦ rw (w.in-Space-OfSpace.is-0, w.pass-is) (
-      let told = w.end.ensures.queue in record { pass = OfSpace told.pass; looked = told.looked; goes_on = told.goes_on }
+      let told = w.end.ensures.looks in record { pass = OfSpace told.pass; looked = told.looked; table = told.table; queue = told.queue }
       )
   | in-Table-OfTable w ↦ rw (w.in-Table-OfTable.is-0, w.pass-is) (
-      let told = w.end-in-Table-OfTable.ensures.queue in record { pass = OfTable told.pass; looked = told.looked; goes_on = told.goes_on }
+      let told = w.end-in-Table-OfTable.ensures.looks in record { pass = OfTable told.pass; looked = told.looked; table = told.table; queue = told.queue }
       )
 ]

@@ -33,6 +33,12 @@ returns-clause-held g c = elim c.match-self.branch [
   | in-Table-OfTable w ↦ rw (w.pass-is, w.out-is) w.snapshot-in-Table-OfTable.ensures.held
 ]
 
+pub returns-clause-goes_on : goal.returns-clause-goes_on
+returns-clause-goes_on g c = elim c.match-self.branch [
+  | in-Space-OfSpace w ↦ rw (w.in-Space-OfSpace.is-1, w.pass-is) w.snapshot.ensures.goes_on
+  | in-Table-OfTable w ↦ rw (w.in-Table-OfTable.is-1, w.pass-is) w.snapshot-in-Table-OfTable.ensures.goes_on
+]
+
 pub returns-clause-queue : goal.returns-clause-queue
 returns-clause-queue g c = elim c.match-self.branch [
   | in-Space-OfSpace w ↦ rw (w.in-Space-OfSpace.is-1, w.pass-is) w.snapshot.ensures.queue
