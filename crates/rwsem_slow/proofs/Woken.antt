@@ -55,6 +55,7 @@ left-within woken v a b u same steps before w more after = record {
   mine = sym same ∙ w.mine;
   was = w.was;
   first = since-within v a b u same steps before w.first more after;
+  next = λ is. since-within v a b u same steps before (w.next is) more after;
   others = λ is. on-within _ woken v a b u same steps before (w.others is) more after;
   nobody = w.nobody;
 }

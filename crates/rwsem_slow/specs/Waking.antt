@@ -63,12 +63,13 @@ pub record WakesQueued (alone : Bool) (woken : List ℕ) (v u : Shown) : Type 0 
   pub others : left % 2 ≡ 0 → WakesOf (kind_at left) woken (behind step v) u
   pub nobody : left % 2 ≡ 1 → woken ≡ []
 
--- A task that leaves the list wakes these of it. A step since found the code of the list's first waiter. Where that is the task itself, those that a wake of any waiter wakes of the others; else nobody.
+-- A task that leaves the list wakes these of it. A step since found the code of the list's first waiter. Where that is the task itself, a step found the code of the first of the others too, and these are those that a wake of any waiter wakes of the others. Else nobody.
 pub record WakesLeft (woken : List ℕ) (v u : Shown) : Type 0 where
   pub task : ℕ
   pub mine : v.hand.task ≡ Some task
   pub was : List Waiter
   pub first : FindsSince list_at (first_code was) v u
+  pub next : first_code was ≡ task + 1 → FindsSince list_at (first_code (without task was)) v u
   pub others : first_code was ≡ task + 1 → WakesOn (without task was) woken v u
   pub nobody : first_code was ≢ task + 1 → woken ≡ []
 

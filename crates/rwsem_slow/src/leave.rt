@@ -83,6 +83,9 @@ fn remove_first<O: Object>(site: &Site<SemRule<O>>, pass: &mut Pass<SemRule<O>>,
         (leaves_wake true (view_of pass.old).ext.wake) (view_of pass.new) }
     ensures left { (view_of pass.new).ext.list.list ≡
         without task (view_of pass.old).ext.list.list }
+    ensures found { FindsSince list_at
+        (first_code (without task (view_of pass.old).ext.list.list))
+        (seen_of pass.old) (seen_of pass.new) }
     ensures none_left { bit result + some_of (view_of pass.new).ext.list.list ≡ 1 }
 {
     list::remove(site, pass, task);
@@ -133,6 +136,9 @@ fn leave_first<O: Object, C: Cpu>(
     ensures on { MovesOn site.now pass.old pass.new }
     ensures left { HasLeft (woken_tasks woken.new) (view_of pass.old) (view_of pass.new) }
     ensures tasks { AreTaskNumbers (plan_of site.now) (woken_tasks woken.new) }
+    ensures found { FindsSince list_at
+        (first_code (without task (view_of pass.old).ext.list.list))
+        (seen_of pass.old) (seen_of pass.new) }
     ensures woken { WakesOn (without task (view_of pass.old).ext.list.list) (woken_tasks woken.new)
         (seen_of pass.old) (seen_of pass.new) }
     ensures sleeps { C.sleeps cpu.new ≡ C.sleeps cpu.old }

@@ -34,16 +34,18 @@ returns-then-is_first-clause-woken g c = let looked = c.is_first.ensures.looked 
   mine = sym c.requires.own.task ∙ (sym c.task.ensures ∙ c.in-Some.is);
   was = c.is_first.new.pass.seat.me.0.view.ext.list.list;
   first = since-within (seen_of c.args.pass.now) (seen_of c.args.pass.now) (seen_of c.is_first.new.pass) last refl (omega arith) (λ p t. t) c.is_first.ensures.found more c.leave_first.ensures.on.goes_on;
+  next = λ _. since-within (seen_of c.args.pass.now) (seen_of c.is_first.new.pass) last last (ap (λ (z : V). z.hand.task) looked.is) steps c.is_first.ensures.goes_on c.leave_first.ensures.found (omega arith) (λ p t. t);
   others = λ _. on-within _ (woken_tasks c.leave_first.new.woken) (seen_of c.args.pass.now) (seen_of c.is_first.new.pass) last last (ap (λ (z : V). z.hand.task) looked.is) steps c.is_first.ensures.goes_on c.leave_first.ensures.woken (omega arith) (λ p t. t);
   nobody = λ other. absurd (other first);
 }
 
 pub returns-else-is_first-clause-woken : goal.returns-else-is_first-clause-woken
-returns-else-is_first-clause-woken g c = let more = c.remove_behind.ensures.gone.later in let behind = c.is_first.ensures.behind c.if-is_first.false in record {
+returns-else-is_first-clause-woken g c = let more = c.remove_behind.ensures.gone.later in let isnt = c.is_first.ensures.behind c.if-is_first.false in record {
   task = c.in-Some.task;
   mine = sym c.requires.own.task ∙ (sym c.task.ensures ∙ c.in-Some.is);
   was = c.is_first.new.pass.seat.me.0.view.ext.list.list;
   first = since-within (seen_of c.args.pass.now) (seen_of c.args.pass.now) (seen_of c.is_first.new.pass) (seen_of c.remove_behind.new.pass) refl (omega arith) (λ p t. t) c.is_first.ensures.found more c.remove_behind.ensures.goes_on;
-  others = λ is. absurd (behind is);
+  next = λ is. absurd (isnt is);
+  others = λ is. absurd (isnt is);
   nobody = λ _. c.requires.empty;
 }

@@ -1,12 +1,14 @@
-use Rattle.std.proofs.Common.{◌≡◌, ◌∙◌, ◌+◌, Bool, ap, sym, subst, arith}
+use Rattle.std.proofs.Common.{◌≡◌, ◌∙◌, ◌+◌, Bool, ℕ, ap, sym, subst, arith}
 use Rattle.lock_core.specs.Records.{bit}
-use Rattle.wait_list.specs.Lists.{without}
+use Rattle.lock_core.specs.Shown.{FindsSince}
+use Rattle.lock_core.proofs.Within.{since-within}
+use Rattle.wait_list.specs.Lists.{first_code, without}
 use Rattle.rwsem_count.specs.Counts.{shared_weight}
 use Rattle.rwsem_wake.specs.declared.view.SemHand.{SemHand}
 use Rattle.rwsem_wake.specs.Grants.{summing}
 use Rattle.rwsem_wake.specs.SemParts.{some_of}
 use Rattle.rwsem_wake.specs.RwSemPlaces.{seen_of}
-use Rattle.rwsem_wake.specs.RwSemViews.{V}
+use Rattle.rwsem_wake.specs.RwSemViews.{V, list_at}
 use Rattle.rwsem_wake.proofs.FirstLooks.{any-other}
 use Rattle.rwsem_slow.proofs.Quitting.{empty-stage, left-empty, left-others, others-rest, unmarked-first, unmarked-is, unmarked-list, wakes-nobody, wakes-others}
 use Rattle.rwsem_wake.specs.RwSemWakes.{woken_tasks}
@@ -48,3 +50,13 @@ returns-else-remove_first-clause-woken g c = let wakes = c.wake.ensures.wakes in
     wakes-others wakes.was (without c.args.task c.args.pass.now.seat.me.0.view.ext.list.list) (woken_tasks c.wake.new.woken) wakes.written (seen_of c.args.pass.now) (seen_of c.remove_first.new.pass) (seen_of c.wake.new.pass)
     (wakes.before gone.list.knows ∙ (c.remove_first.ensures.left ∙ ap (λ (z : V). without c.args.task z.ext.list.list) c.unmark.ensures.kept)) (wakes.saw any-other) wakes.woken_are
     (ap (λ (z : V). z.hand.task) gone.is ∙ ap (λ (z : V). z.hand.task) c.unmark.ensures.kept) (omega (arith, later, more)) (λ p t. c.remove_first.ensures.goes_on p (c.unmark.ensures.goes_on p t))
+
+pub returns-then-remove_first-clause-found : goal.returns-then-remove_first-clause-found
+returns-then-remove_first-clause-found g c = let later = c.unmark.ensures.later in let last = ap (λ (z : V). z.steps) c.clear_flags.ensures.kept in
+    subst (λ (n : ℕ). FindsSince list_at n (seen_of c.args.pass.now) (seen_of c.clear_flags.new.pass)) (ap (λ (z : V). first_code (without c.args.task z.ext.list.list)) c.unmark.ensures.kept)
+    (since-within (seen_of c.args.pass.now) (seen_of c.unmark.new.pass) (seen_of c.remove_first.new.pass) (seen_of c.clear_flags.new.pass) (ap (λ (z : V). z.hand.task) c.unmark.ensures.kept) (omega (arith, later)) c.unmark.ensures.goes_on c.remove_first.ensures.found (omega (arith, last)) c.clear_flags.ensures.goes_on)
+
+pub returns-else-remove_first-clause-found : goal.returns-else-remove_first-clause-found
+returns-else-remove_first-clause-found g c = let later = c.unmark.ensures.later in let last = c.wake.ensures.on.steps in
+    subst (λ (n : ℕ). FindsSince list_at n (seen_of c.args.pass.now) (seen_of c.wake.new.pass)) (ap (λ (z : V). first_code (without c.args.task z.ext.list.list)) c.unmark.ensures.kept)
+    (since-within (seen_of c.args.pass.now) (seen_of c.unmark.new.pass) (seen_of c.remove_first.new.pass) (seen_of c.wake.new.pass) (ap (λ (z : V). z.hand.task) c.unmark.ensures.kept) (omega (arith, later)) c.unmark.ensures.goes_on c.remove_first.ensures.found (omega (arith, last)) c.wake.ensures.on.goes_on)
