@@ -47,7 +47,7 @@ pub fn told_calls_have_their_causes<A: SpaceLock, T: TableLock, C: Crew>()
         kept }
 {}
 
-/// At no moment of an object's past a wake-up was lost. If nobody holds a table and tasks wait, a
+/// At no moment of an object's past was a wake-up lost. If nobody holds a table and tasks wait, a
 /// task that doesn't wait is to wake the first of them; or that waiter's wake word is set, or it is
 /// awake and tries before it sleeps. If nobody writes or reads a space and tasks wait, a task owes a
 /// wake, or a bias keeps writers out, or the first waiter is a writer that is being woken. A reader

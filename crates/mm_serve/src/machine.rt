@@ -103,7 +103,8 @@ where
     /// Does all tasks at once, each on a thread of its own, and takes a snapshot of each object
     /// when all are done. The results are legal histories of the machine's script. Then looks back
     /// at each object's table, after which each gathered pass knows what was so at every step. It
-    /// goes back to what each task did on the table and on the lock's spin queue.
+    /// goes back to a pass with each task's number: on the table to its step by which all the task's
+    /// calls were recorded, and on the lock's spin queue to a moment outside the queue.
     ///
     /// Where a thread can't be made, its task is done by another task's thread after that one's
     /// own, so tasks that wait for each other can then wait for good.
