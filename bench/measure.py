@@ -1,6 +1,7 @@
 """Runs a program on scripts of seven shapes, and prints time, processor time, memory, switches from one
-thread to another and, where valgrind is there, instructions. A second program, if one is named, is run
-on the same scripts in turn with the first, and has a row below each of its rows.
+thread to another and, where valgrind is there, instructions. Further programs, if they are named, are
+run on the same scripts in turn with the first, and have a row each below its rows: the plain program,
+and the plain program over the kernel's locks. Those two read no scripts of version 2.
 
 With one task the instructions don't vary from run to run. With more they go by which calls meet, so
 only a difference beyond that of several runs tells two programs apart.
@@ -174,16 +175,19 @@ def report(shape, size, programs, options, path):
 
 
 def main():
-    programs = dict(zip(["program", "plain"], sys.argv[1:]))
+    programs = dict(zip(["program", "plain", "kernel"], sys.argv[1:]))
     print(f"load at the start: {os.getloadavg()[0]:.2f}; processors: {os.cpu_count()}; runs: {RUNS}")
     head = ["shape", "bytes", "", "best ms", "median ms", "processor ms", "KiB", "switches", "instructions"]
     print("{:<22} {:>9} {:<8} {:>8} {:>9} {:>12} {:>8} {:>8} {:>13}".format(*head))
     for shape, script in SHAPES.items():
         for size in SIZES:
             with tempfile.NamedTemporaryFile("w", suffix=".script") as file:
-                file.write(script(size))
+                text = script(size)
+                file.write(text)
                 file.flush()
-                report(shape, size, programs, [], file.name)
+                # Only the first program reads version 2.
+                read = 1 if text.startswith("version") else len(programs)
+                report(shape, size, dict(list(programs.items())[:read]), [], file.name)
     report("generated, summary", "", programs, ["--generate", "7", "--summary"], os.devnull)
 
 

@@ -2,7 +2,7 @@
    of its files. Headers that these ask for and that bench/kernel/build doesn't unpack are empty.
    A processor is a thread: its number, its task and its per-CPU variables are the thread's own.
    Nothing interrupts or preempts a task as far as the locks see, no signal comes, and no processor
-   needs rescheduling. */
+   needs rescheduling. With YIELDS a task that looks often yields, and needs rescheduling. */
 #pragma once
 #include <errno.h>
 #include <stdbool.h>
@@ -131,11 +131,21 @@ struct file;
 #define smp_acquire__after_ctrl_dep() barrier()
 
 #if defined __x86_64__ || defined __i386__
-#define cpu_relax() __asm__ volatile("pause" ::: "memory")
+#define short_pause() __asm__ volatile("pause" ::: "memory")
 #elif defined __aarch64__
-#define cpu_relax() __asm__ volatile("yield" ::: "memory")
+#define short_pause() __asm__ volatile("yield" ::: "memory")
 #else
-#define cpu_relax() barrier()
+#define short_pause() barrier()
+#endif
+
+#ifdef YIELDS
+int sched_yield(void);
+/* A call's first 128 pauses are short, and its processor needs rescheduling at each 101st question. */
+#define cpu_relax() ({ if (this_task.looks++ < 128) short_pause(); else sched_yield(); })
+#define need_resched() (++this_task.questions % 101 == 0)
+#else
+#define cpu_relax() short_pause()
+#define need_resched() false
 #endif
 
 #define smp_cond_load_acquire(place, condition) ({ \
@@ -159,6 +169,7 @@ struct task_struct {
     int processor;
     int on_cpu;
     bool to_wake;
+    unsigned looks, questions;
     struct task_struct *next_to_wake;
 } __attribute__((aligned(64)));
 struct wake_q_head { struct task_struct *first, *last; };
@@ -188,7 +199,6 @@ unsigned long coarse_clock(void);
 #define NSEC_PER_USEC 1000
 #define owner_on_cpu(task) READ_ONCE((task)->on_cpu)
 #define vcpu_is_preempted(processor) false
-#define need_resched() false
 #define signal_pending_state(state, task) false
 #define rt_or_dl_task(task) false
 #define get_task_struct(task)

@@ -1,10 +1,12 @@
 //! What the program does with scripts of version 1, in plain Rust over the locks of its standard
-//! library, to compare times and instructions with. A `version` line is refused. Each space is
+//! library, to compare times and instructions with; built with `--cfg kernel`, over the kernel's own
+//! mutex and semaphore (bench/kernel/objects.c). A `version` line is refused. Each space is
 //! under a `RwLock`, each table under a `Mutex`. Modes and signals are read. A call with a mode
 //! waits as one without it, so no call is busy, and no signal interrupts a wait. `populate` answers
 //! by its LEN and PROT, and its pages aren't counted. So scripts with modes or `populate` don't
 //! compare the same work.
 mod call;
+mod locks;
 mod parse;
 mod report;
 mod run;

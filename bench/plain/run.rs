@@ -2,7 +2,8 @@
 use crate::call::{Call, Kind, Record, Reply, Script};
 use crate::space::{Space, MAX_AREAS};
 use crate::table::Table;
-use std::sync::{Mutex, RwLock};
+use crate::locks::{Mutex, RwLock};
+use std::sync::Barrier;
 use std::thread;
 
 /// Two lines wide, so that no two objects share one.
@@ -88,12 +89,25 @@ fn run_task(task: u8, calls: &[Call], objects: &[Object]) -> Vec<Record> {
     records
 }
 
-/// Runs each task on a thread, and answers what each call replied.
+/// Runs each task on a thread, and answers what each call replied. Over the kernel's locks no thread
+/// ends before all are done: others may look at its task and at its nodes in queues.
 pub fn run(script: &Script, objects: &[Object]) -> Vec<Vec<Record>> {
+    let done = Barrier::new(script.tasks.len());
     thread::scope(|scope| {
         let mut threads = Vec::with_capacity(script.tasks.len());
         for (task, calls) in script.tasks.iter().enumerate() {
-            threads.push(scope.spawn(move || run_task(task as u8, calls, objects)));
+            let done = &done;
+            threads.push(scope.spawn(move || {
+                #[cfg(kernel)]
+                unsafe {
+                    crate::locks::kernel::task_begin(task as i32);
+                }
+                let records = run_task(task as u8, calls, objects);
+                if cfg!(kernel) {
+                    done.wait();
+                }
+                records
+            }));
         }
         let joined = threads.into_iter().map(|thread| thread.join().unwrap());
         joined.collect()
