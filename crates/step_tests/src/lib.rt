@@ -1,21 +1,15 @@
-//! Tests of single steps on the words of locks and of courses of them; of batches, CPUs, crews and
-//! gates; of the per-CPU semaphore; and of faults without the lock.
+//! Tests of single steps and of courses of them; of CPUs, crews and gates; of sites with a count; of
+//! the per-CPU semaphore; and of faults without the lock.
 #![tactic(auto)]
 
 #[cfg(test)]
-mod batch_tests;
-#[cfg(test)]
 mod count_tests;
-#[cfg(test)]
-mod course;
 #[cfg(test)]
 mod course_tests;
 #[cfg(test)]
 mod cpu_tests;
 #[cfg(test)]
 mod faults_tests;
-#[cfg(test)]
-mod owner_tests;
 #[cfg(test)]
 mod percpu_calls;
 #[cfg(test)]
