@@ -26,7 +26,7 @@ module _ {S C P U : Type 0} (is_space : S → Bool) (calls_on : S → Plan) (han
     pub held : AreHeld hand moments_of m
     -- The gathered pass knows all that was so of the object's table, from its opening on. Under locks that is who held, what the lock's word stated, what the lock tells of its own, and who stood in the lock's spin queue, up to a look there.
     pub past : KnowsPasts knows_past m
-    -- It goes back to all that a pass with each task's number did, until it looked back. Under locks this pass then made a step on the object's table by which all the task's calls were recorded. On the spin queue it wasn't in the queue then, and had entered it and been its head as often as it says.
+    -- It goes back to a pass with each task's number. Under locks it goes back to a step of this pass on the object's table by which all the task's calls were recorded. At the last moment that this pass knows of the spin queue the task's number was outside the queue, and the pass had entered it and been its head as often as it says.
     pub tasks : GoBackToTasks looked_back moments_of spun calls_on m
     -- no gathered pass has a task's number or owes anything
     pub rest : IsAtRest idle m

@@ -50,8 +50,8 @@ pub fn told_calls_have_their_causes<A: SpaceLock, T: TableLock, C: Crew>()
 /// At no moment of an object's past was a wake-up lost. If nobody holds a table and tasks wait, a
 /// task that doesn't wait is to wake the first of them; or that waiter's wake word is set, or it is
 /// awake and tries before it sleeps. If nobody writes or reads a space and tasks wait, a task owes a
-/// wake, or a bias keeps writers out, or the first waiter is a writer that is being woken. A reader
-/// that is granted while it waits is being woken.
+/// wake, or a bias keeps writers out, or the first waiter is a writer that needs no further wake. A
+/// reader that is granted while it waits needs none either.
 pub fn told_waiters_lose_no_wake<A: SpaceLock, T: TableLock, C: Crew>()
     ensures { (kept : LockedMachine A Areas A.Rule A.Site A.Pass A.Rule.Ext SpaceCall
         T Fds T.Rule T.Site T.Pass T.Rule.Ext TableCall C C.C) →

@@ -19,7 +19,7 @@ pub record HasLookedBack {Call : Type 0} (o : Obj Call) (kind : Kind) (Sits : Ty
   pub queue : tells_queue k v spun
 
 module _ {S P : Type 0} (looked_back : S → P → ℕ → Type 0) (past spun : P → List Moment) where
-  -- of the object's table and of the spin queue this pass goes back to all that such a pass with the task's number did
+  -- this pass goes back to all moments, of the object's table and of the spin queue, that such a pass with the task's number goes back to
   pub record GoesBackToTask (s : S) (t : ℕ) (p : P) : Type 0 where
     pub pass : P
     pub looked : looked_back s pass t

@@ -72,7 +72,7 @@ module _ {S C P U : Type 0} where
     pub legal : AreLegal script (results_of m) told
     pub known : AreAllKnown hand (gathered_of m) told
 
-  -- the gathered pass of each object goes back to all that a pass with each task's number did on the object's table and on the spin queue of its lock, until it looked back behind all the task's calls
+  -- The gathered pass of each object goes back to a pass with each task's number. On the object's table it goes back to a step by which all the task's calls were recorded. On the spin queue it goes back to a look, of which no clause says when it was.
   abbrev pub GoBackToTasks : (looked_back : S → P → ℕ → Type 0) → (past spun : P → List Moment) → (S → Plan) → Machine S C P U → Type 0
   GoBackToTasks looked_back past spun calls_on m = EachOf (λ k s p. GoesBackToTasks looked_back past spun calls_on s p) (sites_of m) (gathered_of m)
 

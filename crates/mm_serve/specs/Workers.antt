@@ -41,7 +41,7 @@ module _ {P Q S : Type 0} (idle : S → Q → Type 0) (hand : Q → Hand) (calls
     pub passes : HaveSeenNothing idle hand sites w.passes.items
 
 module _ {P Q S : Type 0} (idle : S → Q → Type 0) (hand : Q → Hand) (looked_back : S → Q → ℕ → Type 0) (past spun : Q → List Moment) (is_space : S → Bool) (calls_on : S → Plan) (sites : List S) where
-  -- it has done all calls of its task, and has then looked back at each object's table and at the spin queue of its lock
+  -- it has done all calls of its task, and on each object its pass goes back to a pass with the task's number that looked back
   pub record HasDoneItsTask (old new : Worker P Q) : Type 0 where
     pub task : new.task ≡ old.task
     pub passes : EachOf (λ k s p. idle s p × HasDoneOn (is_space s) (calls_on s) (hand p) new.task × GoesBackToTask looked_back past spun s new.task p) sites new.passes.items

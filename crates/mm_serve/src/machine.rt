@@ -103,8 +103,9 @@ where
     /// Does all tasks at once, each on a thread of its own, and takes a snapshot of each object
     /// when all are done. The results are legal histories of the machine's script. Then looks back
     /// at each object's table, after which each gathered pass knows what was so at every step. It
-    /// goes back to a pass with each task's number: on the table to its step by which all the task's
-    /// calls were recorded, and on the lock's spin queue to a moment outside the queue.
+    /// goes back to a pass with each task's number. On the table it goes back to a step of that pass
+    /// by which all the task's calls were recorded. On the lock's spin queue it goes back to a moment
+    /// at which that number was outside the queue.
     ///
     /// Where a thread can't be made, its task is done by another task's thread after that one's
     /// own, so tasks that wait for each other can then wait for good.

@@ -114,6 +114,7 @@ impl<O: Object> Mutex<O> {
     pub fn split(&self, pass: &mut MutexPass<O>) -> MutexPass<O>
         requires own { SitsAt self.now pass.old }
         ensures on { StepsOn self.now pass.old pass.new }
+        ensures queue { SpunGoesOn pass.old pass.new }
         ensures its_own { SitsAt self.now result }
         ensures kept { Looks (shown_of pass.old) (shown_of pass.new) }
         ensures given { shown_of result ≡ shown_split (shown_of pass.old) }
@@ -355,6 +356,7 @@ impl<O: Object> Mutex<O> {
         requires numbered { IsSome (hand_in pass.old).task }
         requires out { (hand_in pass.old).held ≡ No }
         ensures on { StepsOn self.now pass.old pass.new }
+        ensures queue { SpunGoesOn pass.old pass.new }
         ensures took { IfOk result (λ _. TakesAlone O.object self.now pass.old pass.new) }
         ensures opened { IfOk result (λ _. TakesOpen (shown_of pass.old) (shown_of pass.new)) }
         ensures at_once { IfOk result (λ _. Got Fast (shown_of pass.old) (shown_of pass.new)) }
@@ -376,6 +378,7 @@ impl<O: Object> Mutex<O> {
         requires numbered { IsSome (hand_in pass.old).task }
         requires out { (hand_in pass.old).held ≡ No }
         ensures on { StepsOn self.now pass.old pass.new }
+        ensures queue { SpunGoesOn pass.old pass.new }
         ensures took { IfOk result (λ _. TakesAlone O.object self.now pass.old pass.new) }
         ensures opened { IfOk result (λ _. TakesOpen (shown_of pass.old) (shown_of pass.new)) }
         ensures at_once { IfOk result (λ _. Got Fast (shown_of pass.old) (shown_of pass.new)) }

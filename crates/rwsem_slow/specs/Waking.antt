@@ -51,15 +51,15 @@ abbrev pub WakesOthers : (wakes wakes' : ℕ) → Shown → Shown → Type 0
 WakesOthers wakes wakes' v u = (FindsItselfFirst v u × (wakes' ≡ wakes))
     ⊎ ((n : ℕ) × FindsSince count_at n v u × (n % 2 ≡ 0 → WakesWaiting (kind_at n) wakes wakes' v u) × (n % 2 ≡ 1 → wakes' ≡ wakes))
 
--- the call's step of this number took a reader's bias back and left this count; it set WAITERS too where the reader stood alone in the list
-abbrev pub TakesBack : (alone : Bool) → (step left : ℕ) → Shown → Shown → Type 0
-TakesBack alone step left v u = (v.steps < step) × (step ≤ u.steps) × (n : ℕ) × FindsAtStep step count_at n v u × (left + 256 ≡ n + 2 * bit alone)
+-- Before the call's step of this number the count was this one and 256 more, less 2 where the reader stood alone in the list. So a reader's bias is gone from it, and in the latter case WAITERS is set.
+abbrev pub FindsOneBiasMore : (alone : Bool) → (step left : ℕ) → Shown → Shown → Type 0
+FindsOneBiasMore alone step left v u = (v.steps < step) × (step ≤ u.steps) × (n : ℕ) × FindsAtStep step count_at n v u × (left + 256 ≡ n + 2 * bit alone)
 
--- A reader that queued is to wake these tasks. Where the count that it left as it took its bias back has no writer, they are those of a wake at that count, by what it found behind that step. Else they are none.
+-- A reader that queued is to wake these tasks. A step of the call found a count with one bias more than this one. Where this one has no writer, they are those of a wake at it, by what the call found behind that step. Else they are none.
 pub record WakesQueued (alone : Bool) (woken : List ℕ) (v u : Shown) : Type 0 where
   pub step : ℕ
   pub left : ℕ
-  pub back : TakesBack alone step left v u
+  pub back : FindsOneBiasMore alone step left v u
   pub others : left % 2 ≡ 0 → WakesOf (kind_at left) woken (behind step v) u
   pub nobody : left % 2 ≡ 1 → woken ≡ []
 

@@ -110,6 +110,7 @@ impl<O: Object> RwSem<O> {
     pub fn split(&self, pass: &mut RwPass<O>) -> RwPass<O>
         requires own { SitsAt self.now pass.old }
         ensures on { StepsOn self.now pass.old pass.new }
+        ensures queue { SpunGoesOn pass.old pass.new }
         ensures its_own { SitsAt self.now result }
         ensures kept { Looks (shown_of pass.old) (shown_of pass.new) }
         ensures given { shown_of result ≡ shown_split (shown_of pass.old) }

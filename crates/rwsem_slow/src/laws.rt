@@ -29,9 +29,9 @@ pub fn picks_batch_in_turn()
 {}
 
 /// No wake-up is lost: where nobody writes or reads and tasks wait, a task owes a wake, or a bias
-/// keeps writers out, or the first waiter is a writer that is being woken. A reader that is granted
-/// while it waits is being woken. Of each moment that a pass goes back to, its look back says that
-/// the list is so (`IsQueued`).
+/// keeps writers out, or the first waiter is a writer that needs no further wake. A reader that is
+/// granted while it waits needs none either. Of each moment that a pass goes back to, its look back
+/// says that the list is so (`IsQueued`).
 pub fn loses_no_wake()
     ensures { (m : Moment) (q : List Waiter) (ps : List SemPart) →
         IsQueued m q ps → LosesNoWake m q ps }

@@ -23,6 +23,7 @@ impl<O: Object> Mutex<O> {
     pub fn recall_wait_lock(&self, pass: &mut MutexPass<O>)
         requires own { SitsAt self.now pass.old }
         ensures on { StepsOn self.now pass.old pass.new }
+        ensures queue { SpunGoesOn pass.old pass.new }
         ensures kept { Looks (shown_of pass.old) (shown_of pass.new) }
         ensures last { IsLatestStep (shown_of pass.new) }
         ensures begins { Tail (newest (plan_of self.now) ∷ []) (shown_of pass.new).past }

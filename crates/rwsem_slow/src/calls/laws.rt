@@ -23,6 +23,7 @@ impl<O: Object> RwSem<O> {
     pub fn recall_wait_lock(&self, pass: &mut RwPass<O>)
         requires own { SitsAt self.now pass.old }
         ensures on { StepsOn self.now pass.old pass.new }
+        ensures queue { SpunGoesOn pass.old pass.new }
         ensures still { KeepsWakes pass.old pass.new }
         ensures kept { Looks (shown_of pass.old) (shown_of pass.new) }
         ensures last { IsLatestStep (shown_of pass.new) }

@@ -6,7 +6,7 @@ ghost use Rattle.lock_core.specs.Kinds.{semaphore};
 ghost use Rattle.lock_core.specs.Locking.{Got, Interrupts, KeepsPlace, TalliesLock};
 ghost use Rattle.sleep_lock.specs.Leaving.{LeavesForCpu};
 ghost use Rattle.rwsem_wake.specs.RwSemViews.{count_at};
-ghost use Rattle.rwsem_slow.specs.RwSemHandles.{shown_of, dozes_in, hand_in, SitsAt, TakesShared, StepsOn};
+ghost use Rattle.rwsem_slow.specs.RwSemHandles.{shown_of, dozes_in, hand_in, SitsAt, SpunGoesOn, TakesShared, StepsOn};
 ghost use Rattle.cpu_task.specs.CpuCounting.{Dozes};
 ghost use Rattle.rwsem_slow.specs.SleepCounting.{CountsReading, SleepsBetween};
 ghost use Rattle.rwsem_slow.specs.RwSemOpening.{EntersOpen};
@@ -33,6 +33,7 @@ impl<O: Object> RwSem<O> {
         requires numbered { IsSome (hand_in pass.old).task }
         requires out { (hand_in pass.old).held ≡ No }
         ensures on { StepsOn self.now pass.old pass.new }
+        ensures queue { SpunGoesOn pass.old pass.new }
         ensures dozed { Dozes (C.C.sleeps cpu.old) (C.C.sleeps cpu.new)
             (dozes_in pass.old) (dozes_in pass.new) }
         ensures took { TakesShared O.object self.now pass.old pass.new }
@@ -65,6 +66,7 @@ impl<O: Object> RwSem<O> {
         requires numbered { IsSome (hand_in pass.old).task }
         requires out { (hand_in pass.old).held ≡ No }
         ensures on { StepsOn self.now pass.old pass.new }
+        ensures queue { SpunGoesOn pass.old pass.new }
         ensures dozed { Dozes (C.C.sleeps cpu.old) (C.C.sleeps cpu.new)
             (dozes_in pass.old) (dozes_in pass.new) }
         ensures took { IfOk result (λ _. TakesShared O.object self.now pass.old pass.new) }
@@ -107,6 +109,7 @@ impl<O: Object> RwSem<O> {
         requires numbered { IsSome (hand_in pass.old).task }
         requires out { (hand_in pass.old).held ≡ No }
         ensures on { StepsOn self.now pass.old pass.new }
+        ensures queue { SpunGoesOn pass.old pass.new }
         ensures dozed { Dozes (C.C.sleeps cpu.old) (C.C.sleeps cpu.new)
             (dozes_in pass.old) (dozes_in pass.new) }
         ensures took { IfOk result (λ _. TakesShared O.object self.now pass.old pass.new) }

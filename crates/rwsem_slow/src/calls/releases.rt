@@ -15,13 +15,14 @@ use std::sync::Wait;
 use word_bits::Object;
 
 impl<O: Object> RwSem<O> {
-    /// Ends the pass's shared hold. If it leaves nobody who holds, and tasks wait, it wakes the
-    /// first of them, and with a reader the batch: at most 256 readers. If a writer came since, it
-    /// wakes no reader. The kernel's `up_read`.
+    /// Ends the pass's shared hold. If it leaves nobody who holds, and tasks wait, it looks for the
+    /// first of them and wakes that one, with a reader the batch: at most 256 readers. If its look at
+    /// the count finds a writer, it wakes no reader. The kernel's `up_read`.
     pub fn up_read<W: Wait, C: Crew>(&self, rt: &W, pass: &mut RwPass<O>, crew: &C)
         requires own { SitsAt self.now pass.old }
         requires held { (hand_in pass.old).held ≡ Shared }
         ensures on { StepsOn self.now pass.old pass.new }
+        ensures queue { SpunGoesOn pass.old pass.new }
         ensures dozes { dozes_in pass.new ≡ dozes_in pass.old }
         ensures released { Releases (wakes_shared semaphore)
             (shown_of pass.old) (shown_of pass.new) }
@@ -33,9 +34,9 @@ impl<O: Object> RwSem<O> {
         release::up_read(&self.site, rt, &mut pass.pass, crew, &mut pass.counts);
     }
 
-    /// Ends the pass's exclusive hold. If tasks wait, it wakes the first of them, and with a reader
-    /// the batch: at most 256 readers. If a writer came since, it wakes no reader. The kernel's
-    /// `up_write`.
+    /// Ends the pass's exclusive hold. If tasks wait, it looks for the first of them and wakes that
+    /// one, with a reader the batch: at most 256 readers. If its look at the count finds a writer, it
+    /// wakes no reader. The kernel's `up_write`.
     pub fn up_write<W: Wait, C: Crew>(&self, rt: &W, pass: &mut RwPass<O>, crew: &C)
         requires own { SitsAt self.now pass.old }
         requires held { (hand_in pass.old).held ≡ Alone }
@@ -60,6 +61,7 @@ impl<O: Object> RwSem<O> {
         requires held { (hand_in pass.old).held ≡ Alone }
         requires quiet { (hand_in pass.old).writes ≡ false }
         ensures on { StepsOn self.now pass.old pass.new }
+        ensures queue { SpunGoesOn pass.old pass.new }
         ensures dozes { dozes_in pass.new ≡ dozes_in pass.old }
         ensures downgraded { Downgrades semaphore (shown_of pass.old) (shown_of pass.new) }
         ensures left { LeavesCount (wakes_down semaphore) Shared 0 255

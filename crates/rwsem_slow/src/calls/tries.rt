@@ -8,7 +8,7 @@ ghost use Rattle.lock_core.specs.Pasts.{FoundAt};
 ghost use Rattle.rwsem_count.specs.CountTries.{FindsFree};
 ghost use Rattle.rwsem_count.specs.CountWordSteps.{IsReadFree};
 ghost use Rattle.rwsem_wake.specs.RwSemViews.{count_at};
-ghost use Rattle.rwsem_slow.specs.RwSemHandles.{shown_of, hand_in, KeepsWakes, SitsAt, TakesAlone, TakesShared, StepsOn};
+ghost use Rattle.rwsem_slow.specs.RwSemHandles.{shown_of, hand_in, KeepsWakes, SitsAt, SpunGoesOn, TakesAlone, TakesShared, StepsOn};
 
 use super::{RwPass, RwSem};
 use rwsem_count::{steps, tries};
@@ -24,6 +24,7 @@ impl<O: Object> RwSem<O> {
         requires numbered { IsSome (hand_in pass.old).task }
         requires out { (hand_in pass.old).held ≡ No }
         ensures on { StepsOn self.now pass.old pass.new }
+        ensures queue { SpunGoesOn pass.old pass.new }
         ensures still { KeepsWakes pass.old pass.new }
         ensures took { IfOk result (λ _. TakesShared O.object self.now pass.old pass.new) }
         ensures at_once { IfOk result (λ _. Got Fast (shown_of pass.old) (shown_of pass.new)) }
@@ -43,6 +44,7 @@ impl<O: Object> RwSem<O> {
         requires numbered { IsSome (hand_in pass.old).task }
         requires out { (hand_in pass.old).held ≡ No }
         ensures on { StepsOn self.now pass.old pass.new }
+        ensures queue { SpunGoesOn pass.old pass.new }
         ensures still { KeepsWakes pass.old pass.new }
         ensures took { IfOk result (λ _. TakesAlone O.object self.now pass.old pass.new) }
         ensures at_once { IfOk result (λ _. Got Fast (shown_of pass.old) (shown_of pass.new)) }

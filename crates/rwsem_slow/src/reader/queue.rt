@@ -12,7 +12,7 @@ ghost use Rattle.rwsem_slow.specs.Queued.{Becomes, IsInTransit, IsInLineToWake, 
 ghost use Rattle.rwsem_wake.specs.Removals.{KnowsList};
 ghost use Rattle.rwsem_wake.specs.RwSemPlaces.{MovesOn, dozes_of, seen_of};
 ghost use Rattle.rwsem_wake.specs.RwSemWakes.{woken_tasks};
-ghost use Rattle.rwsem_slow.specs.Waking.{TakesBack, WakesQueued};
+ghost use Rattle.rwsem_slow.specs.Waking.{FindsOneBiasMore, WakesQueued};
 
 use crate::SemRule;
 use cpu_task::Cpu;
@@ -66,7 +66,7 @@ fn join<O: Object>(site: &Site<SemRule<O>>, pass: &mut Pass<SemRule<O>>, empty: 
     ensures face { SaysSame pass.old pass.new }
     ensures came { Becomes (view_of pass.old) 1 (waiting Reads)
         (left_by result (comes (view_of pass.old).ext.wake)) (view_of pass.new) }
-    ensures back { TakesBack empty (view_of pass.new).steps result
+    ensures back { FindsOneBiasMore empty (view_of pass.new).steps result
         (seen_of pass.old) (seen_of pass.new) }
 {
     let Some(task) = pass.task() else {
