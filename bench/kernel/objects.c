@@ -34,32 +34,16 @@ void task_begin(int processor) {
     task_of_processor[processor] = &this_task;
 }
 
-void semaphore_read(struct rw_semaphore *semaphore) {
-    this_task.looks = 0;
-    down_read(semaphore);
-}
+/* A call of a lock, which begins with short pauses. */
+#define CALL(name, type, call) \
+    void name(struct type *lock) { \
+        this_task.looks = 0; \
+        call(lock); \
+    }
 
-void semaphore_read_end(struct rw_semaphore *semaphore) {
-    this_task.looks = 0;
-    up_read(semaphore);
-}
-
-void semaphore_write(struct rw_semaphore *semaphore) {
-    this_task.looks = 0;
-    down_write(semaphore);
-}
-
-void semaphore_write_end(struct rw_semaphore *semaphore) {
-    this_task.looks = 0;
-    up_write(semaphore);
-}
-
-void mutex_take(struct mutex *mutex) {
-    this_task.looks = 0;
-    mutex_lock(mutex);
-}
-
-void mutex_end(struct mutex *mutex) {
-    this_task.looks = 0;
-    mutex_unlock(mutex);
-}
+CALL(semaphore_read, rw_semaphore, down_read)
+CALL(semaphore_read_end, rw_semaphore, up_read)
+CALL(semaphore_write, rw_semaphore, down_write)
+CALL(semaphore_write_end, rw_semaphore, up_write)
+CALL(mutex_take, mutex, mutex_lock)
+CALL(mutex_end, mutex, mutex_unlock)
