@@ -6,7 +6,7 @@ use Rattle.std.proofs.lemmas.List.{length-map, get_or-map, get_or_past, map_push
 use Rattle.std.proofs.lemmas.List.FromFn.{fill_by_all, length-map-range_with_len, get_or-map-range_with_len}
 use Rattle.std.specs.List.{range_with_len}
 use Rattle.fd_table.specs.Tables.{FdMap, no_files, IsFdMap, IsTable, fd_map, slot_word, words_from, stores}
-use Rattle.fd_table.specs.TableLaws.{slot_word-injective}
+use Rattle.fd_table.specs.Laws.Table.{slot_word-injective}
 
 -- the table of slots can be stored
 pub IsFdMap-fd_map : (slots : List (Option ℕ)) → IsTable slots → IsFdMap (fd_map slots)

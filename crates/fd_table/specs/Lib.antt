@@ -1,3 +1,2 @@
 pub mod Tables
-pub mod TableCallLaws
-pub mod TableLaws
+pub mod Laws

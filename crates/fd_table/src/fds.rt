@@ -119,7 +119,7 @@ impl Fds {
 
 impl Object for Fds {
     ghost use Rattle.fd_table.specs.Tables.{fd_map, table};
-    ghost use Rattle.fd_table.specs.TableLaws.{few_words, starts, zeros, called, signals, goes_on, replies, reading, refused};
+    ghost use Rattle.fd_table.specs.Laws.Table.{few_words, starts, zeros, called, signals, goes_on, replies, reading, refused};
 
     type Call = TableCall;
 
@@ -159,7 +159,7 @@ impl Object for Fds {
 }
 
 impl ValueObject for Fds {
-    ghost use Rattle.fd_table.specs.TableLaws.{sized, apart};
+    ghost use Rattle.fd_table.specs.Laws.Table.{sized, apart};
 
     fn empty() -> Self {
         Fds {

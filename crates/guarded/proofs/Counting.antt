@@ -12,7 +12,7 @@ use Rattle.std.specs.List.{AllByRecursion}
 use Rattle.std.proofs.lemmas.List.{take_more}
 use Rattle.word_bits.specs.declared.area.Area.{Area}
 use Rattle.vma_map.specs.Runs.{page_map, AreRuns}
-use Rattle.vma_map.specs.AreaLaws.{page_map-in, page_map-behind, page_map-below, page_map-low, AreRuns-head, AreRuns-tail}
+use Rattle.vma_map.specs.Laws.Area.{page_map-in, page_map-behind, page_map-below, page_map-low, AreRuns-head, AreRuns-tail}
 use Rattle.vma_map.proofs.CountLemmas.{covered}
 use Rattle.guarded.specs.CallServing.{part, share, readable_from, is_readable}
 

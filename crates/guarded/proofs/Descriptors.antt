@@ -15,7 +15,7 @@ use Rattle.lock_core.specs.Views.{wrote}
 use Rattle.fd_table.specs.declared.call.TableCall.{TableCall}
 use Rattle.fd_table.specs.declared.call.TableCall.TheVariants.{Open, Close, Dup, Dup2}
 use Rattle.fd_table.specs.Tables.{FdMap, IsFdMap, IsFull, IsLowestFree, lowest_free, meaning, opened, reopened, slot_word, stores, with_file, words_from}
-use Rattle.fd_table.specs.TableLaws.{lowest_free-lowest}
+use Rattle.fd_table.specs.Laws.Table.{lowest_free-lowest}
 use Rattle.guarded.specs.Performing.{HasStored}
 use Rattle.guarded.specs.Slots.{DoesTo}
 use Rattle.guarded.proofs.Passing.{beside-trans}

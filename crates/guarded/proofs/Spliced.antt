@@ -5,8 +5,8 @@ use Rattle.std.proofs.lemmas.List.{take_at, length-map, map-append, take-map, dr
 use Rattle.word_bits.specs.declared.area.Area.{Area}
 use Rattle.word_bits.specs.AreaWord.{IsArea, area_word}
 use Rattle.vma_map.specs.Runs.{AreRuns, IsSpace, words_of_areas, spliced}
-use Rattle.vma_map.specs.AreaLaws.{AreRuns-head, AreRuns-tail}
-use Rattle.vma_map.specs.SpaceLaws.{length-words_of_areas}
+use Rattle.vma_map.specs.Laws.Area.{AreRuns-head, AreRuns-tail}
+use Rattle.vma_map.specs.Laws.Space.{length-words_of_areas}
 use Rattle.vma_map.proofs.RangeLemmas.{no_area, AreRuns-at}
 use Rattle.vma_map.proofs.WordLemmas.{AreRuns-take}
 use Rattle.guarded.specs.CallServing.{AreZeroFrom}

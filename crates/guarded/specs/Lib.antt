@@ -3,7 +3,7 @@ pub mod CallServing
 pub mod GuardedHandles
 pub mod Performing
 pub mod Splicing
-pub mod SplicingLaws
 pub mod Slots
 pub mod ObjectCopying
 pub mod Gathering
+pub mod Laws

@@ -33,7 +33,8 @@ pub record FoundBetween (at n : ℕ) (old new : List Moment) : Type 0 where
   pub after : GoesOn old past
   pub goes_on : GoesOn past new
 
--- the last of these moments is that of a step of the pass which has the task's number: it left the pass holding alone without writing, by as many takes, with these records, this log and these guarded words
+-- the last of these moments is that of a step of the pass which has the task's number: it left the pass holding alone without writing, by as many takes, with these records, this log and these guarded
+-- words
 pub record HeldAlone (task : Option ℕ) (takes : ℕ) (records : List Told) (log : List Entry) (known : List ℕ) (past : List Moment) : Type 0 where
   pub step : ℕ
   pub by : IsStepBy task step past
@@ -68,7 +69,8 @@ AddsRecWords k v u w w' = (rows : List (List ℕ)) × AreRecWords k v.hand v.pas
 abbrev pub KnowsChronicle : {Call : Type 0} → Obj Call → Unavailable → Plan → Hand → Type 0
 KnowsChronicle o unavailable k h = Chronicles o unavailable k h.records h.log
 
--- The words are a log that begins with what the pass had seen, the state after it, and a word for each call: that of its record, if the pass knows it. They were copied under one hold: the pass held alone, by its one take since, with the records that it knew, this log and this state, at two of its steps, and each record's word was found between them.
+-- The words are a log that begins with what the pass had seen, the state after it, and a word for each call: that of its record, if the pass knows it. They were copied under one hold: the pass held
+-- alone, by its one take since, with the records that it knew, this log and this state, at two of its steps, and each record's word was found between them.
 pub record Copies {Call : Type 0} (o : Obj Call) (unavailable : Unavailable) (k : Plan) (v u : Shown) (w : Words) : Type 0 where
   pub entries : List Entry
   pub rows : List (List ℕ)

@@ -45,7 +45,8 @@ Changes o k call reply v u = HasSince (λ step. committed (record v.hand { known
 abbrev pub no_word : ℕ → Type 0
 no_word word = ⊥
 
--- What a call counts, by whether a signal interrupted it: an interruption just then; that it stood in the list of waiters, exactly where it appended itself, which it did once at most, and surely if it was interrupted; and a turn in the spin queue that didn't come, exactly where it swapped the queue's tail and wasn't its head.
+-- What a call counts, by whether a signal interrupted it: an interruption just then; that it stood in the list of waiters, exactly where it appended itself, which it did once at most, and surely if
+-- it was interrupted; and a turn in the spin queue that didn't come, exactly where it swapped the queue's tail and wasn't its head.
 pub record TalliesCall (cut : Bool) (v u : Shown) : Type 0 where
   pub interrupted : u.tally.interrupted ≡ raised cut v.tally.interrupted
   pub stood : Bool

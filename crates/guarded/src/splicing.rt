@@ -16,7 +16,7 @@ use word_bits::Area;
 pub(crate) struct LockedAreas<L>(PhantomData<L>);
 
 impl<L: SleepLock<Areas>> AreaStore for LockedAreas<L> {
-    ghost use Rattle.guarded.specs.SplicingLaws.{changes-none, changes-more};
+    ghost use Rattle.guarded.specs.Laws.Splicing.{changes-none, changes-more};
 
     type Place = L;
 

@@ -94,7 +94,8 @@ pub record OnlyWrites (h g : Hand) : Type 0 where
   pub sent : g.sent ≡ h.sent
   pub consumed : g.consumed ≡ h.consumed
 
--- What the opening asks of an object and of a plan. These words are as many as those that represent a state. The first task's call may be recorded once they stand there. Who takes that task's number is to make the call, or has seen it.
+-- What the opening asks of an object and of a plan. These words are as many as those that represent a state. The first task's call may be recorded once they stand there. Who takes that task's number
+-- is to make the call, or has seen it.
 pub record Opens {Call : Type 0} (o : Obj Call) (unavailable : Unavailable) (k : Plan) (words : List ℕ) : Type 0 where
   pub wide : (s : o.State) (ws : List ℕ) → o.Represents s ws → length ws ≡ length words
   pub may : (h : Hand) → h.task ≡ Some 0 → h.done ≡ 0 → h.known ≡ words → IsChange o k h (next_entry h) Good

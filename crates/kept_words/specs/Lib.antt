@@ -1,3 +1,3 @@
 pub mod Keeping
-pub mod KeepingLaws
 pub mod Left
+pub mod Laws

@@ -42,7 +42,7 @@ pub struct Words<I> {
 }
 
 impl<I: Invariant> Object for Words<I> {
-    ghost use Rattle.kept_words.specs.KeepingLaws.{kept-zeros, never-reads, never-refused, no-signal};
+    ghost use Rattle.kept_words.specs.Laws.Keeping.{kept-zeros, never-reads, never-refused, no-signal};
     ghost use Rattle.std.specs.Prelude.{refl, true};
 
     type Call = ();

@@ -10,7 +10,7 @@ use Rattle.lock_core.specs.declared.view.Held.TheVariants.{No}
 use Rattle.lock_core.specs.Layout.{SiteWords, lay}
 use Rattle.lock_core.specs.Views.{gave_up}
 use Rattle.lock_core.specs.Sites.{HandGoes, SiteKept, SiteStep}
-use Rattle.lock_core.specs.MoveLaws.{keeps-recs}
+use Rattle.lock_core.specs.Laws.Move.{keeps-recs}
 use Rattle.lock_core.proofs.LayoutLaws.{lay-lines}
 use Rattle.lock_core.proofs.SeatSteps.{site-ends}
 use Rattle.lock_core.specs.declared.layout.TheConstants.{LINES_AT}

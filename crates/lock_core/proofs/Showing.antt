@@ -7,7 +7,7 @@ use Rattle.lock_core.specs.declared.view.Held.TheVariants.{No}
 use Rattle.lock_core.specs.Views.{handed}
 use Rattle.lock_core.specs.Holding.{missed}
 use Rattle.lock_core.specs.Pasts.{GoesOn, FoundAt, IsOwnStep}
-use Rattle.lock_core.specs.SiteRunLaws.{found-at-step, step-by}
+use Rattle.lock_core.specs.Laws.SiteRun.{found-at-step, step-by}
 use Rattle.lock_core.specs.Kinds.{Kind, unavailable}
 use Rattle.lock_core.specs.Shown.{IsLatestStep, shown}
 use Rattle.lock_core.specs.Locking.{Sees, Misses}

@@ -21,7 +21,7 @@ use Rattle.lock_core.specs.Layout.{SiteWords, lay, site}
 use Rattle.lock_core.specs.Views.{SpinStays, hand_of, handed, seated, forgot, with_number, ticked, split_off, merged, spent, stranger, gathered}
 use Rattle.lock_core.specs.Sites.{HandGoes, SiteKept, SiteStep}
 use Rattle.lock_core.specs.Moves.{Goes, Lets, KeepsHold, SiteMoveWhere}
-use Rattle.lock_core.specs.MoveLaws.{saw-stays, set-moves, tick-moved, seat-moved, hand-moved, leaves-site}
+use Rattle.lock_core.specs.Laws.Move.{saw-stays, set-moves, tick-moved, seat-moved, hand-moved, leaves-site}
 use Rattle.lock_core.specs.SitePlays.{Found, PutBy, Begun, Heeded}
 use Rattle.lock_core.specs.declared.view.Moment.{Moment}
 use Rattle.lock_core.specs.Pasts.{ChangesOneWord, KeepsJoined, GoesOn, Instant, instant, view_of, moment, Moves, Lived, Ran, IsMarked, IsOwnStep}

@@ -19,7 +19,7 @@ use Rattle.lock_core.specs.Layout.{SiteWords, lay, recs_at}
 use Rattle.lock_core.specs.Records.{row}
 use Rattle.lock_core.specs.Views.{wrote, entered, logged, recorded, owed_weight, sent_after, consumed_after, settled}
 use Rattle.lock_core.specs.Sites.{SiteKept, SiteStep}
-use Rattle.lock_core.specs.MoveLaws.{keeps-recs}
+use Rattle.lock_core.specs.Laws.Move.{keeps-recs}
 use Rattle.lock_core.specs.SitePasses.{IsLength, IsEntryAt, MayRecord}
 use Rattle.lock_core.proofs.LayoutLaws.{lay-guarded, lay-len, lay-entries, lay-recs}
 use Rattle.lock_core.specs.Regions.{part-at}

@@ -23,7 +23,8 @@ use Rattle.lock_core.specs.Records.{row}
 use Rattle.lock_core.specs.Sites.{consumed_at, sent_at}
 use Rattle.lock_core.specs.SiteStated.{IsNew, IsSiteThen}
 
--- A step of this past, from the first moment to the second, that was made while this call was the task's next on the object: the pass that made it had the task's number, and had recorded just so many of the task's calls. It has this hand before and this one after. Of calls on other objects this says nothing.
+-- A step of this past, from the first moment to the second, that was made while this call was the task's next on the object: the pass that made it had the task's number, and had recorded just so many
+-- of the task's calls. It has this hand before and this one after. Of calls on other objects this says nothing.
 pub record IsStepDuring (past : List Moment) (task call : ℕ) (x y : Moment) (h g : Hand) : Type 0 where
   pub rest : List Moment
   pub is : Tail (y ∷ x ∷ rest) past
@@ -38,11 +39,13 @@ pub record IsStepDuring (past : List Moment) (task call : ℕ) (x y : Moment) (h
 
 -- While the call was its task's next, its pass tried in vain: it held nothing, counted the failed try, and the lock's word, which stands at this place, was this one.
 abbrev pub FailedTryDuring : (word_at : ℕ) → List Moment → (task call word : ℕ) → Type 0
-FailedTryDuring word_at past task call word = (x : Moment) × (y : Moment) × (h : Hand) × (g : Hand) × IsStepDuring past task call x y h g × (h.held ≡ No) × (g.misses ≡ h.misses + 1) × (slice_index x.words word_at ≡ word)
+FailedTryDuring word_at past task call word = (x : Moment) × (y : Moment) × (h : Hand) × (g : Hand) × IsStepDuring past task call x y h g × (h.held ≡ No) × (g.misses ≡ h.misses + 1)
+    × (slice_index x.words word_at ≡ word)
 
 -- While the call was its task's next, its pass raised this word of the tasks' lines.
 abbrev pub RaisedDuring : Plan → List Moment → (task call place : ℕ) → Type 0
-RaisedDuring k past task call place = (x : Moment) × (y : Moment) × (h : Hand) × (g : Hand) × IsStepDuring past task call x y h g × (slice_index (site k x.words).lines place < slice_index (site k y.words).lines place)
+RaisedDuring k past task call place = (x : Moment) × (y : Moment) × (h : Hand) × (g : Hand) × IsStepDuring past task call x y h g
+    × (slice_index (site k x.words).lines place < slice_index (site k y.words).lines place)
 
 -- the call is of the plan, and has this record at the moment
 pub record IsRecordedThen (k : Plan) (m : Moment) (t c : ℕ) (r : Rec) : Type 0 where
@@ -50,7 +53,8 @@ pub record IsRecordedThen (k : Plan) (m : Moment) (t c : ℕ) (r : Rec) : Type 0
   pub fits : IsRec r
   pub recorded : record_in k m t c ≡ rec_word r
 
--- What a call that replied so had as its cause in this past. Busy: a try of it failed, which saw the word that it replies. Interrupted: it consumed a signal to its task, and a try of it failed. Sent: it is a signal, and sent one to its target.
+-- What a call that replied so had as its cause in this past. Busy: a try of it failed, which saw the word that it replies. Interrupted: it consumed a signal to its task, and a try of it failed. Sent:
+-- it is a signal, and sent one to its target.
 pub record HasCause (k : Plan) (word_at : ℕ) (past : List Moment) (t c : ℕ) (reply : Reply) : Type 0 where
   pub busy : (word : ℕ) → reply ≡ Busy word → FailedTryDuring word_at past t c word
   pub interrupted : reply ≡ Intr → RaisedDuring k past t c (consumed_at t)

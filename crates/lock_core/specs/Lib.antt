@@ -3,7 +3,6 @@ pub mod Layout
 pub mod Stores
 pub mod Regions
 pub mod Records
-pub mod Totals
 pub mod ViewParts
 pub mod Views
 pub mod SpinFrames
@@ -12,12 +11,9 @@ pub mod SpinQueues
 pub mod Holding
 pub mod Sites
 pub mod Moves
-pub mod MoveLaws
 pub mod Pasts
 pub mod Stored
-pub mod SiteRunLaws
 pub mod Spins
-pub mod SpinLaws
 pub mod SitePlays
 pub mod SitePasses
 pub mod Chronicles
@@ -33,13 +29,13 @@ pub mod Kinds
 pub mod Shown
 pub mod Locking
 pub mod Locked
-pub mod LockedLaws
 pub mod SiteHandles
 pub mod NodeLists
-pub mod NodeListLaws
 pub mod Signals
 pub mod Ops
 pub mod Tallies
 pub mod Faces
 pub mod SeatLending
 pub mod Sitting
+pub mod Totals
+pub mod Laws

@@ -22,7 +22,8 @@ use Rattle.lock_core.specs.Views.{owed_of}
 use Rattle.lock_core.specs.ViewParts.{Each}
 
 module _ {Call : Type 0} (o : Obj Call) where
-  -- A pass with this hand holds, alone if its call may change the object, and the call, with these words and this record, looks at the object or changes it. Before, so many changing calls had taken effect, and the object was in this state; the call stands behind just these. Its reply and the object's next state are what the call means on that state.
+  -- A pass with this hand holds, alone if its call may change the object, and the call, with these words and this record, looks at the object or changes it. Before, so many changing calls had taken
+  -- effect, and the object was in this state; the call stands behind just these. Its reply and the object's next state are what the call means on that state.
   pub record AppliesCall (h : Hand) (w : CallWords) (r : Rec) (n : ℕ) (s : o.State) (n' : ℕ) (s' : o.State) : Type 0 where
     pub call : Call
     pub is : o.call_of w ≡ Some call
@@ -62,7 +63,8 @@ module _ {Call : Type 0} (o : Obj Call) where
   abbrev pub IsSimulationStep : Plan → SiteWords → SiteWords → List Hand → (steps steps' : List ℕ) → (n : ℕ) → o.State → (n' : ℕ) → o.State → Type 0
   IsSimulationStep k w w' hs steps steps' n s n' s' = ((w'.recs ≡ w.recs) × (n' ≡ n) × (s' ≡ s)) ⊎ IsLinearizationPoint k w w' hs steps steps' n s n' s'
 
-  -- What the abstract state is of a table: so many changing calls have taken effect as the log has entries whose records no pass owes, and the state is that after these. Where no pass writes or owes a record, the guarded words represent it.
+  -- What the abstract state is of a table: so many changing calls have taken effect as the log has entries whose records no pass owes, and the state is that after these. Where no pass writes or owes
+  -- a record, the guarded words represent it.
   pub record RepresentsAbstractState (size : ℕ) (k : Plan) (w : SiteWords) (hs : List Hand) (n : ℕ) (s : o.State) : Type 0 where
     pub log : List Entry
     pub entries : (w.len ≡ length log) × (take (length log) w.entries ≡ map entry_word log)
@@ -75,7 +77,8 @@ module _ {Call : Type 0} (o : Obj Call) where
   abbrev pub LinearizesTo : (size : ℕ) → Plan → List Moment → (n : ℕ) → o.State → Type 0
   LinearizesTo size k [] n s = ⊥
   LinearizesTo size k (m ∷ []) n s = RepresentsAbstractState size k (site k m.words) m.hands n s × (n ≡ 0) × (s ≡ o.empty)
-  LinearizesTo size k (y ∷ x ∷ past) n' s' = RepresentsAbstractState size k (site k y.words) y.hands n' s' × ((n : ℕ) × (s : o.State) × IsSimulationStep k (site k x.words) (site k y.words) x.hands x.steps y.steps n s n' s' × LinearizesTo size k (x ∷ past) n s)
+  LinearizesTo size k (y ∷ x ∷ past) n' s' = RepresentsAbstractState size k (site k y.words) y.hands n' s'
+      × ((n : ℕ) × (s : o.State) × IsSimulationStep k (site k x.words) (site k y.words) x.hands x.steps y.steps n s n' s' × LinearizesTo size k (x ∷ past) n s)
 
   -- In these moments each call that was recorded since the first of them has its linearization point at the step that stored its record. Of calls without a record this says nothing.
   abbrev pub IsLinearizable : (size : ℕ) → Plan → List Moment → Type 0

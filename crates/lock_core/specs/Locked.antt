@@ -90,7 +90,8 @@ pub record IsGone (id : ℕ) (h : Hand) (x y : Moment) : Type 0 where
   pub steps : get_elem? y.steps id ≡ some 0
   pub fronts : get_elem? y.fronts id ≡ some 0
 
--- One pass led from the first moment to the second, in one counted step that changed no word but one. It did to the site's words what every step of a site does. The lock's word stands at this place, and `unheld` says whether calls may read without a hold. Every other pass that is still there is as it was, and one that wasn't there was split off.
+-- One pass led from the first moment to the second, in one counted step that changed no word but one. It did to the site's words what every step of a site does. The lock's word stands at this place,
+-- and `unheld` says whether calls may read without a hold. Every other pass that is still there is as it was, and one that wasn't there was split off.
 pub record IsSiteStepWhere (unheld : Bool) (k : Plan) (word_at : ℕ) (x y : Moment) : Type 0 where
   pub id : ℕ
   pub before : Hand

@@ -111,7 +111,8 @@ pub record Interrupts (kind : Kind) (reads : Bool) (at : ℕ) (why : Interrupted
   pub freed : u.hand.freed ≡ v.hand.freed
   pub waited : u.line.appends ≡ v.line.appends + 1
 
--- what a call that ends or downgrades a hold leaves: it has not come to hold anew, so that it held at each step up to the one that ended the hold; where its word has waiters to be woken it has gone through the wait lock
+-- what a call that ends or downgrades a hold leaves: it has not come to hold anew, so that it held at each step up to the one that ended the hold; where its word has waiters to be woken it has gone
+-- through the wait lock
 pub record Frees (wakes : ℕ → Type 0) (v u : Shown) : Type 0 where
   pub keeps : Keeps v u
   pub consumed : u.hand.consumed ≡ v.hand.consumed
@@ -155,7 +156,8 @@ pub record KeepsPlace (kind : Kind) (shared : Bool) (at : ℕ) (v u : Shown) : T
   pub queues : v.hand.misses < u.hand.misses → u.fronts ≡ v.fronts → (v.spin.entries < u.spin.entries) ⊎ ((shared ≡ true) × IsLetIn kind at v u)
   pub few : u.fronts ≡ v.fronts → u.hand.misses ≤ v.hand.misses + tries kind
 
--- What a call that waits counted, by its answer: whether it stood in the list of waiters, and whether a signal interrupted it; and whether the lock's spin queue answered false. Each entry of that queue ends as its head, which is the answer true, or with the answer false.
+-- What a call that waits counted, by its answer: whether it stood in the list of waiters, and whether a signal interrupted it; and whether the lock's spin queue answered false. Each entry of that
+-- queue ends as its head, which is the answer true, or with the answer false.
 pub record TalliesLock (answer : Result How Interrupted) (v u : Shown) : Type 0 where
   pub queued : u.tally.queued ≡ raised (stood_in_list answer) v.tally.queued
   pub interrupted : u.tally.interrupted ≡ raised (was_interrupted answer) v.tally.interrupted

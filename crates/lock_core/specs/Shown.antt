@@ -37,7 +37,8 @@ pub record Shown : Type 0 where
 abbrev pub no_line : Line
 no_line = record { appends = 0 }
 
--- What a pass with this view and past shows, whose lock tells so how it has stood in line, and how often it was the head of a spin queue of the lock's own. Of that queue, and of calls that wait, nothing else is counted.
+-- What a pass with this view and past shows, whose lock tells so how it has stood in line, and how often it was the head of a spin queue of the lock's own. Of that queue, and of calls that wait,
+-- nothing else is counted.
 abbrev pub shown : {E : Type 0} → (E → Line) → ℕ → View E → List Moment → Shown
 shown line fronts v past = record { hand = v.hand; spin = v.spin; steps = v.steps; fronts = fronts; line = line v.ext; past = past; swaps = 0; tally = no_tally }
 

@@ -70,7 +70,8 @@ module _ {R O E C : Type 0} where
 
   -- beside that, with the same slots in hand, its past goes on, up to its own last step, and it notes the same of the spin locks
   abbrev pub KeepsSeat : Pass R O E C → Pass R O E C → Type 0
-  KeepsSeat old new = (new.seat.table_id ≡ old.seat.table_id) × (new.seat.id ≡ old.seat.id) × (new.seat.me.1 ≡ old.seat.me.1) × GoesOn (past_of old) (past_of new) × IsLatest new × (new.nest ≡ old.nest)
+  KeepsSeat old new = (new.seat.table_id ≡ old.seat.table_id) × (new.seat.id ≡ old.seat.id) × (new.seat.me.1 ≡ old.seat.me.1) × GoesOn (past_of old) (past_of new) × IsLatest new
+      × (new.nest ≡ old.nest)
 
   -- what the pass says of itself
   abbrev pub task_in : Pass R O E C → Option ℕ
@@ -143,6 +144,19 @@ module _ {R O E C : Type 0} where
   abbrev pub KeepsPast : Pass R O E C → Pass R O E C → Type 0
   KeepsPast old new = GoesOn (past_of old) (past_of new)
 
+  -- it made steps at the site: it is one of the site's, and its past goes on, up to its own last step
+  pub record StepsAt (site : Site R O E C) (old new : Pass R O E C) : Type 0 where
+    pub own : SitsAt site new
+    pub goes_on : KeepsPast old new
+    pub last : IsLatest new
+
+  -- it made some steps at the site or none, and has the number that it had
+  pub record MovesOn (site : Site R O E C) (old new : Pass R O E C) : Type 0 where
+    pub own : SitsAt site new
+    pub task : task_in new ≡ task_in old
+    pub goes_on : KeepsPast old new
+    pub steps : (view_of old).steps ≤ (view_of new).steps
+
   -- the word had this number at one of the steps that the pass made since
   abbrev pub Finds : ℕ → ℕ → Pass R O E C → Pass R O E C → Type 0
   Finds at n old new = FoundSince (hand_in old).task (view_of old).steps (view_of new).steps at n (past_of old) (past_of new)
@@ -211,7 +225,8 @@ module _ {R O E C : Type 0} where
     Kept s hs = SiteKept o unavailable size (plan_of site) (lay (plan_of site) s) hs
 
     abbrev After : List ℕ → List Hand → ℕ → Hand → Type 0
-    After s hs new g = Kept (slice_set s at new) (slice_set hs pass.seat.id g) × SiteStep unheld ((view_of pass).steps + 1) (lay (plan_of site) s) (lay (plan_of site) (slice_set s at new)) (hand_in pass) g
+    After s hs new g = Kept (slice_set s at new) (slice_set hs pass.seat.id g)
+        × SiteStep unheld ((view_of pass).steps + 1) (lay (plan_of site) s) (lay (plan_of site) (slice_set s at new)) (hand_in pass) g
 
     -- whatever the words and the hands are, a load finds what this says
     abbrev pub MayFind : (Hand → ℕ → ℕ → Type 0) → Type 0
@@ -223,8 +238,12 @@ module _ {R O E C : Type 0} where
 
     -- so may an addition, which fits
     abbrev pub MayAdd : ℕ → Hand → Type 0
-    MayAdd by g = (s : List ℕ) (hs : List Hand) → Kept s hs → get_elem? hs pass.seat.id ≡ some (hand_in pass) → (slice_index s at + by < 18446744073709551616) × Kept (slice_set s at (slice_index s at + by)) (slice_set hs pass.seat.id g) × SiteStep unheld ((view_of pass).steps + 1) (lay (plan_of site) s) (lay (plan_of site) (slice_set s at (slice_index s at + by))) (hand_in pass) g
+    MayAdd by g = (s : List ℕ) (hs : List Hand) → Kept s hs → get_elem? hs pass.seat.id ≡ some (hand_in pass) → (slice_index s at + by < 18446744073709551616)
+        × Kept (slice_set s at (slice_index s at + by)) (slice_set hs pass.seat.id g)
+        × SiteStep unheld ((view_of pass).steps + 1) (lay (plan_of site) s) (lay (plan_of site) (slice_set s at (slice_index s at + by))) (hand_in pass) g
 
     -- where the word is 0, a store of 1 may leave such a hand
     abbrev pub MayTake : (Hand → Type 0) → (View E → Type 0) → Type 0
-    MayTake becomes rests = (s : List ℕ) (hs : List Hand) → Kept s hs → get_elem? hs pass.seat.id ≡ some (hand_in pass) → slice_index s at ≡ 0 → (g : Hand) × becomes g × KeepsHold rests (view_of pass) g × Kept (slice_set s at 1) (slice_set hs pass.seat.id g) × SiteStep unheld ((view_of pass).steps + 1) (lay (plan_of site) s) (lay (plan_of site) (slice_set s at 1)) (hand_in pass) g
+    MayTake becomes rests = (s : List ℕ) (hs : List Hand) → Kept s hs → get_elem? hs pass.seat.id ≡ some (hand_in pass) → slice_index s at ≡ 0 → (g : Hand) × becomes g
+        × KeepsHold rests (view_of pass) g × Kept (slice_set s at 1) (slice_set hs pass.seat.id g)
+        × SiteStep unheld ((view_of pass).steps + 1) (lay (plan_of site) s) (lay (plan_of site) (slice_set s at 1)) (hand_in pass) g

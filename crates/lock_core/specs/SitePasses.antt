@@ -64,7 +64,8 @@ pub record Shows (h : Hand) (e : Entry) (word : ℕ) : Type 0 where
 
 -- what a pass becomes that takes a number: it has the task's records, each as the rule says, and has seen what the task had
 abbrev pub Numbered : {Call : Type 0} → Obj Call → Unavailable → Plan → Hand → ℕ → Hand → Type 0
-Numbered o unavailable k h t g = (rs : List Rec) × (log : List Entry) × AreNext o unavailable k log t 0 0 (row k t) rs × (length log ≤ calls_in k) × (g ≡ became h t rs (longer h.seen (take (seen_by o 0 (row k t) rs) log)))
+Numbered o unavailable k h t g = (rs : List Rec) × (log : List Entry) × AreNext o unavailable k log t 0 0 (row k t) rs × (length log ≤ calls_in k)
+    × (g ≡ became h t rs (longer h.seen (take (seen_by o 0 (row k t) rs) log)))
 
 -- a task of which so many calls are recorded has seen so many entries, by the records that the pass knows
 abbrev pub HasSeenAfter : {Call : Type 0} → Obj Call → Unavailable → Plan → Hand → (task done n : ℕ) → Type 0
@@ -83,7 +84,8 @@ half_of (suc n) w = w.b
 
 -- the log's length, which leaves room for the pass's next call
 abbrev pub IsLength : Hand → ℕ → ℕ → Type 0
-IsLength h at n = (n ≡ length h.log) × (length h.seen ≤ n) × ((k : Plan) → h.plan ≡ Some k → (n ≤ calls_in k) × ((t : ℕ) → h.task ≡ Some t → h.done < length (row k t) → h.stage ≡ Rest → h.held ≡ Alone → n < calls_in k))
+IsLength h at n = (n ≡ length h.log) × (length h.seen ≤ n) × ((k : Plan) → h.plan ≡ Some k → (n ≤ calls_in k)
+    × ((t : ℕ) → h.task ≡ Some t → h.done < length (row k t) → h.stage ≡ Rest → h.held ≡ Alone → n < calls_in k))
 
 abbrev pub IsEntryAt : Hand → ℕ → ℕ → Type 0
 IsEntryAt h at n = (j : ℕ) (e : Entry) → at ≡ ENTRIES_AT + j → slice_get h.log j ≡ Some e → n ≡ entry_word e

@@ -147,7 +147,8 @@ WasInterrupted h = (h.consumed ≡ 1) × ((word : ℕ) × SawSince h word)
 abbrev pub HasSent : Plan → (task : ℕ) → Hand → Type 0
 HasSent k task h = (words : CallWords) × (target : ℕ) × (slice_get (row k task) h.done ≡ Some words) × (signal_of words ≡ Some target) × (h.sent ≡ Some target)
 
--- what every step of a pass does to its hand: its misses and the number of its takes don't fall, what its last release left stays while it holds as before, and each step by which it comes to hold, or to hold alone, counts a take
+-- what every step of a pass does to its hand: its misses and the number of its takes don't fall, what its last release left stays while it holds as before, and each step by which it comes to hold, or
+-- to hold alone, counts a take
 pub record HoldGoes (h g : Hand) : Type 0 where
   pub misses : h.misses ≤ g.misses
   pub freed : g.held ≡ h.held → g.freed ≡ h.freed
@@ -162,7 +163,8 @@ HandGoes h g = HoldGoes h g × (g.last ≡ h.last) × (owed_of g ≡ owed_of h)
 abbrev pub KeepsSaw : Hand → Hand → Type 0
 KeepsSaw h g = (g.misses ≡ h.misses) × (((g.saw ≡ h.saw) × (g.task ≡ h.task)) ⊎ (g.saw ≡ None))
 
--- a try failed, of a pass that holds nothing, at the step of this number, where the lock's word was this one: it is counted, and the word is kept as seen, under the number that the pass has before and after
+-- a try failed, of a pass that holds nothing, at the step of this number, where the lock's word was this one: it is counted, and the word is kept as seen, under the number that the pass has before
+-- and after
 pub record FailsTry (step word : ℕ) (h g : Hand) : Type 0 where
   pub out : h.held ≡ No
   pub counts : g.misses ≡ h.misses + 1
@@ -177,14 +179,17 @@ SawGoes step word h g = KeepsSaw h g ⊎ FailsTry step word h g
 abbrev pub StandsLast : (len : ℕ) → Hand → (place : ℕ) → Type 0
 StandsLast len h place = (h.held ≢ No) × (place + owed_of h ≡ len)
 
--- where a pass with this hand stands that records a call with this reply. A call that replies busy, EINTR or sent is none of the log. Any other is recorded under a hold, where the log ends, but that a call which isn't logged needn't be where calls may read without a hold.
+-- where a pass with this hand stands that records a call with this reply. A call that replies busy, EINTR or sent is none of the log. Any other is recorded under a hold, where the log ends, but that
+-- a call which isn't logged needn't be where calls may read without a hold.
 abbrev pub ServedBy : (unheld : Bool) → (len : ℕ) → Hand → (place : ℕ) → Reply → Type 0
 ServedBy unheld len h place (Busy word) = owed_of h ≡ 0
 ServedBy unheld len h place Intr = owed_of h ≡ 0
 ServedBy unheld len h place Sent = owed_of h ≡ 0
 ServedBy unheld len h place reply = StandsLast len h place ⊎ ((unheld ≡ true) × (owed_of h ≡ 0))
 
--- The step of this number stores the record of the next call of the pass's own task, in its place among all records. One that says that the lock was taken has a word that the pass saw since it last recorded. Before one that says that the call was interrupted, the pass consumed one signal and saw a word. Before one that says that a signal was sent, the pass sent it. Every signal that the pass sent or consumed is then recorded. One with another reply is stored under a hold, unless calls may read without one (`ServedBy`).
+-- The step of this number stores the record of the next call of the pass's own task, in its place among all records. One that says that the lock was taken has a word that the pass saw since it last
+-- recorded. Before one that says that the call was interrupted, the pass consumed one signal and saw a word. Before one that says that a signal was sent, the pass sent it. Every signal that the pass
+-- sent or consumed is then recorded. One with another reply is stored under a hold, unless calls may read without one (`ServedBy`).
 pub record StoresRecord (unheld : Bool) (step : ℕ) (w w' : SiteWords) (h g : Hand) : Type 0 where
   pub plan : Plan
   pub planned : h.plan ≡ Some plan

@@ -119,10 +119,12 @@ pub record IsSpinStep (n id : ℕ) (w : List ℕ) (ps : List SpinPart) (w' : Lis
   -- the pending bit is set by a pass that then owns it, and cleared by its owner
   pub sets : (l : ℕ) → l < n → pending_in (word_in w l) ≡ 0 → pending_in (word_in w' l) ≡ 1 → (p : SpinPart) × (get_elem? ps' id ≡ some p) × (owns_of (frame_on l p) ≡ 1)
   pub clears : (l : ℕ) → l < n → pending_in (word_in w l) ≡ 1 → pending_in (word_in w' l) ≡ 0 → (p : SpinPart) × (get_elem? ps id ≡ some p) × (owns_of (frame_on l p) ≡ 1)
-  -- Each pass comes to own the bit as a taker only if it saw neither tail nor bit, or to undo it only if it saw a tail, and from the one to the other by no step. It comes to be a ready head only if it saw the byte and the bit 0.
+  -- Each pass comes to own the bit as a taker only if it saw neither tail nor bit, or to undo it only if it saw a tail, and from the one to the other by no step. It comes to be a ready head only if
+  -- it saw the byte and the bit 0.
   pub comes : (l : ℕ) → l < n → (j : ℕ) (p p' : SpinPart) → get_elem? ps j ≡ some p → get_elem? ps' j ≡ some p' → ComesTo (point_at l p.spin) (point_at l p'.spin) (word_in w l)
   -- and its node leaves the queue by the exchange of the word for 1, or by the store that tells the node behind it that it is the head
-  pub leaves : (l : ℕ) → l < n → (j : ℕ) (p p' : SpinPart) → get_elem? ps j ≡ some p → get_elem? ps' j ≡ some p' → LeavesBy l (stands (point_at l p.spin)) (stands (point_at l p'.spin)) w (queues' l) w'
+  pub leaves : (l : ℕ) → l < n → (j : ℕ) (p p' : SpinPart) → get_elem? ps j ≡ some p → get_elem? ps' j ≡ some p'
+      → LeavesBy l (stands (point_at l p.spin)) (stands (point_at l p'.spin)) w (queues' l) w'
 
 -- the pass of this number made one step more, and what it counts of a lock, it counted at this step, by where it was and came to
 abbrev pub CountsSpin : {E : Type 0} → ℕ → List (View E) → List (View E) → Type 0

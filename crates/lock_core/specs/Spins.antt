@@ -92,7 +92,8 @@ SpinsKept n w ps = (queues : ℕ → List ℕ) × SpinFacts n w queues ps
 abbrev pub SpinKept : List ℕ → List SpinPart → Type 0
 SpinKept w ps = SpinsKept 1 w ps
 
--- whose node comes to stand in the queue, stands last in it and has found this tail; whose node no longer does, stood first; and no other step changes the queue, or what a node that stands in it found
+-- whose node comes to stand in the queue, stands last in it and has found this tail; whose node no longer does, stood first; and no other step changes the queue, or what a node that stands in it
+-- found
 abbrev pub QueueMoves : Bool → Bool → (code tail found found' : ℕ) → List ℕ → List ℕ → Type 0
 QueueMoves false true code tail found found' queue queue' = (queue' ≡ queue ++ code ∷ []) × (found' ≡ tail)
 QueueMoves true false code tail found found' queue queue' = queue ≡ code ∷ queue'
@@ -110,7 +111,8 @@ TakesFrom Passing word = Unit {0}
 TakesFrom Holding word = Unit {0}
 TakesFrom _ word = ⊥
 
--- What a pass may come to, by the word. It comes to own the pending bit as a taker only where it saw neither tail nor bit, or to undo it only where it saw a tail and no bit. The taker goes on to take the lock only where it saw the byte 0. The front comes to be ready only where it saw the byte and the bit 0.
+-- What a pass may come to, by the word. It comes to own the pending bit as a taker only where it saw neither tail nor bit, or to undo it only where it saw a tail and no bit. The taker goes on to take
+-- the lock only where it saw the byte 0. The front comes to be ready only where it saw the byte and the bit 0.
 abbrev pub ComesTo : Point → Point → ℕ → Type 0
 ComesTo Pending Pending word = Unit {0}
 ComesTo _ Pending word = (pending_in word ≡ 0) × (tail_in word ≡ 0)
@@ -144,7 +146,8 @@ pub record SpinStep (l id : ℕ) (w : List ℕ) (ps : List SpinPart) (queues : �
   pub others : slice_set ps id after ≡ ps'
   pub takes : holds_of (frame_on l after) ≡ 1 → TakesFrom (point_at l before.spin) (word_in w l)
   pub comes : ComesTo (point_at l before.spin) (point_at l after.spin) (word_in w l)
-  pub queues_move : QueueMoves (stands (point_at l before.spin)) (stands (point_at l after.spin)) (frame_on l before).code (tail_in (word_in w l)) (frame_on l before).found (frame_on l after).found (queues l) (queues' l)
+  pub queues_move : QueueMoves (stands (point_at l before.spin)) (stands (point_at l after.spin)) (frame_on l before).code (tail_in (word_in w l)) (frame_on l before).found (frame_on l after).found
+      (queues l) (queues' l)
   pub leaves : LeavesBy l (stands (point_at l before.spin)) (stands (point_at l after.spin)) w (queues' l) w'
   -- what it now has as seen, it saw before; or it is the word, and the pass was at no point of this lock: so a tail or a bit in it isn't its own
   pub saw : (x : Saw) → after.spin.saw ≡ Some x → (before.spin.saw ≡ Some x) ⊎ ((x.word ≡ word_in w l) × RestsAt l before.spin)

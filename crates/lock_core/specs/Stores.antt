@@ -1,4 +1,5 @@
--- Which words a table stores. The places of words are those of a table for MAX_TASKS tasks: the words of spin locks, four rows, the site's words. Among the words of its locks a table stores those for its plan's tasks alone.
+-- Which words a table stores. The places of words are those of a table for MAX_TASKS tasks: the words of spin locks, four rows, the site's words. Among the words of its locks a table stores those for
+-- its plan's tasks alone.
 use Rattle.std.specs.Prelude.{◌≡◌, ℕ, ◌+◌, ◌-◌, ◌*◌, ◌<◌, ◌≤◌, ◌⊎◌, List, length, slice_index, replicate, ◌++◌}
 use Rattle.word_bits.specs.declared.TheConstants.{MAX_TASKS}
 use Rattle.word_bits.specs.Histories.{Plan}

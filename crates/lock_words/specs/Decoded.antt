@@ -11,7 +11,8 @@ use Rattle.lock_decode.specs.declared.why.Why.{Why}
 use Rattle.lock_decode.specs.declared.linux.LinuxOwner.{LinuxOwner}
 use Rattle.lock_decode.specs.Decodes.{Decodes}
 use Rattle.lock_decode.specs.Here.{CodeFault, CountFault, IsLockSpin, IsMutexOwner, IsSemaphoreCount, IsTask, OwnerFault, SpinFault}
-use Rattle.lock_decode.specs.Linux.{Anything, BlockFault, IsLinuxCount, IsLinuxOwner, IsNarrowSpin, LinuxCountFault, LinuxOwnerFault, NarrowSpinFault, WideSpinFault, linux_owner_word, narrow_spin_word}
+use Rattle.lock_decode.specs.Linux.{Anything, BlockFault, IsLinuxCount, IsLinuxOwner, IsNarrowSpin, LinuxCountFault, LinuxOwnerFault, NarrowSpinFault, WideSpinFault, linux_owner_word}
+use Rattle.lock_decode.specs.Linux.{narrow_spin_word}
 use Rattle.lock_words.specs.declared.kinds.Kind.{Kind}
 use Rattle.lock_words.specs.declared.kinds.Kind.TheVariants.{Mutex, Semaphore, Spin as SpinKind, WideSpin, Queue, Percpu}
 use Rattle.lock_words.specs.declared.texts.Who.{Who}

@@ -38,7 +38,8 @@ abbrev pub biases_text : ℕ → List ℕ
 biases_text readers = decimal readers ++ (if readers == 1 then codes " bias" else codes " biases")
 
 abbrev pub count_fields : Count → List ℕ
-count_fields c = flag_text c.writer (codes "writer, ") ++ biases_text c.readers ++ flag_text c.waiters (codes ", WAITERS") ++ flag_text c.handoff (codes ", HANDOFF") ++ flag_text c.read_fail (codes ", READFAIL")
+count_fields c = flag_text c.writer (codes "writer, ") ++ biases_text c.readers ++ flag_text c.waiters (codes ", WAITERS") ++ flag_text c.handoff (codes ", HANDOFF") ++ flag_text c.read_fail
+    (codes ", READFAIL")
 
 abbrev pub counted_text : (writer : Bool) → (readers : ℕ) → List ℕ
 counted_text writer zero = codes "  no bias is counted\n"

@@ -33,11 +33,13 @@ use Rattle.mm_program.specs.ProgramKept.{LockedMachine}
 
 -- what a semaphore of a space tells
 abbrev pub space_locks : LockMembers (RwSem Areas SpaceCall) (RwPass Areas SpaceCall)
-space_locks = members rwsems.plan_of rwsems.shown_of (λ s p. SitsIdle space (rwsems.plan_of s) (rwsems.SitsAt s p)) rwsems.spun_of semaphore count_at rwsems.newest rwsem_stated.waits_on (KnowsRwSem space 257) KnowsSpinQueue
+space_locks = members rwsems.plan_of rwsems.shown_of (λ s p. SitsIdle space (rwsems.plan_of s) (rwsems.SitsAt s p)) rwsems.spun_of semaphore count_at rwsems.newest rwsem_stated.waits_on
+    (KnowsRwSem space 257) KnowsSpinQueue
 
 -- what a mutex of a table tells
 abbrev pub table_locks : LockMembers (Mutex Fds TableCall) (MutexPass Fds TableCall)
-table_locks = members mutexes.plan_of mutexes.shown_of (λ m p. SitsIdle table (mutexes.plan_of m) (mutexes.SitsAt m p)) mutexes.spun_of mutex owner_at mutexes.newest mutex_stated.waits_on (KnowsMutex table 64) KnowsSpinQueue
+table_locks = members mutexes.plan_of mutexes.shown_of (λ m p. SitsIdle table (mutexes.plan_of m) (mutexes.SitsAt m p)) mutexes.spun_of mutex owner_at mutexes.newest mutex_stated.waits_on
+    (KnowsMutex table 64) KnowsSpinQueue
 
 -- a machine over such objects, whose tasks park
 abbrev pub ProgramMachine : Type 0

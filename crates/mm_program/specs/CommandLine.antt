@@ -1,5 +1,6 @@
 -- The command line: four options, and which numbers they take; or a question how to use the program.
-use Rattle.std.specs.Prelude.{◌≡◌, ℕ, ◌+◌, ◌-◌, ◌<◌, ◌^◌, ◌++◌, ◌||◌, nat_le, Bool, true, false, List, [], ◌∷◌, Option, Some, None, find, option_and_then, option_map, if◌then◌else◌, codes, drop, map, String, string_bytes, Result, Ok, Err}
+use Rattle.std.specs.Prelude.{◌≡◌, ℕ, ◌+◌, ◌-◌, ◌<◌, ◌^◌, ◌++◌, ◌||◌, nat_le, Bool, true, false, List, [], ◌∷◌, Option, Some, None, find, option_and_then, option_map, if◌then◌else◌, codes, drop, map}
+use Rattle.std.specs.Prelude.{String, string_bytes, Result, Ok, Err}
 use Rattle.std.specs.Option.{option_map_or}
 use Rattle.std.specs.Str.{bytes_eq}
 use Rattle.std.specs.Vec.Iter.{into_iter_items}
@@ -58,7 +59,8 @@ options_with spin overdue generate summary = None
 
 abbrev pub options_from : List Row → Option Options
 options_from rows =
-    options_with (number_or 100 1000000 (first_of (codes "spin") rows)) (number_or 4 1000000 (first_of (codes "overdue") rows)) (number_if_used (first_of (codes "generate") rows)) (is_used (codes "summary") rows)
+    options_with (number_or 100 1000000 (first_of (codes "spin") rows)) (number_or 4 1000000 (first_of (codes "overdue") rows)) (number_if_used (first_of (codes "generate") rows))
+    (is_used (codes "summary") rows)
 
 -- nothing where there is a fault
 abbrev pub unless_faulty : Kinds → Option Options → Option Options

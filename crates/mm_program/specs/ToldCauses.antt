@@ -18,7 +18,8 @@ module _ {A P T Q : Type 0} (spaces : LockMembers A P) (tables : LockMembers T Q
   word_under false = tables.word_at
 
 module _ {A S R X P E C T F G Y Q H D B U : Type 0} (spaces : LockMembers A P) (tables : LockMembers T Q) where
-  -- The gathered pass of an object goes back to the cause of each call on it that is told as busy, interrupted or sent: to a step of a pass with the call's task, behind the task's record before the call on the object and not behind the call's own. Of calls on other objects nothing is said.
+  -- The gathered pass of an object goes back to the cause of each call on it that is told as busy, interrupted or sent: to a step of a pass with the call's task, behind the task's record before the
+  -- call on the object and not behind the call's own. Of calls on other objects nothing is said.
   abbrev pub TellsCauses : LockedMachine A S R X P E C T F G Y Q H D B U → Type 0
   TellsCauses m =
       (script : Listing) (told : List Told) (object : ℕ) (d : Declared) (t : Told) (p : SpaceOrTablePass P Q) (v : Event)

@@ -20,7 +20,8 @@ StandInOrder true plan t first second = Before (history space plan t.records t.l
 StandInOrder false plan t first second = Before (history table plan t.records t.log) first second ⊎ ReadAtOnePlace table first second
 
 module _ {A S R X P E C T F G Y Q H D B U : Type 0} (spaces : LockMembers A P) (tables : LockMembers T Q) where
-  -- Take two calls on one object that held its lock, and a moment of the object's table to which the object's gathered pass goes back. If the first was recorded at that moment and the second wasn't, the history that is told of the object has the first before the second. Only two calls that read at one place of the log may stand the other way round.
+  -- Take two calls on one object that held its lock, and a moment of the object's table to which the object's gathered pass goes back. If the first was recorded at that moment and the second wasn't,
+  -- the history that is told of the object has the first before the second. Only two calls that read at one place of the log may stand the other way round.
   abbrev pub TellsInRealTimeOrder : LockedMachine A S R X P E C T F G Y Q H D B U → Type 0
   TellsInRealTimeOrder m =
       (script : Listing) (told : List Told) (object : ℕ) (d : Declared) (t : Told) (p : SpaceOrTablePass P Q) (first second : Event)

@@ -1,9 +1,9 @@
 -- The laws of the objects, as histories need them.
 use Rattle.word_bits.proofs.States.{IsLawful}
 use Rattle.vma_map.specs.Spaces.{space}
-use Rattle.vma_map.specs.SpaceLaws.{starts, called, goes_on, replies}
+use Rattle.vma_map.specs.Laws.Space.{starts, called, goes_on, replies}
 use Rattle.fd_table.specs.Tables.{table}
-use Rattle.fd_table.specs.TableLaws.{starts as table_starts, called as table_called, goes_on as table_goes_on, replies as table_replies}
+use Rattle.fd_table.specs.Laws.Table.{starts as table_starts, called as table_called, goes_on as table_goes_on, replies as table_replies}
 
 -- an address space is lawful
 pub space_lawful : IsLawful space

@@ -11,9 +11,9 @@ use Rattle.word_bits.specs.declared.call.Mode.TheVariants.{Plain, Int, Try}
 use Rattle.word_bits.specs.CallKinds.{kind_of_number}
 use Rattle.word_bits.specs.Calls.{words_of, with_third, mode_number, signal_of}
 use Rattle.vma_map.specs.Spaces.{IsAccess}
-use Rattle.vma_map.specs.SpaceCallLaws as space_laws
+use Rattle.vma_map.specs.Laws.SpaceCall as space_laws
 use Rattle.vma_map.specs.declared.call.SpaceCall.TheVariants.{Map, MapAny, MapNew, Unmap, Protect, Populate, Fault, Remap}
-use Rattle.fd_table.specs.TableCallLaws as table_laws
+use Rattle.fd_table.specs.Laws.TableCall as table_laws
 use Rattle.fd_table.specs.declared.call.TableCall.TheVariants.{Open, Close, Dup, Dup2, Get}
 use Rattle.task_script.specs.Tokens.{prot, access}
 use Rattle.task_script.specs.Verbs.{call_on}

@@ -56,4 +56,5 @@ TableCallsAreNamed = (version : Version) (mode : Mode) (call : TableCall) → ta
 
 -- on either kind of object a signal means the task that it names, which a script of the version may have
 abbrev pub SignalsAreNamed : Type 0
-SignalsAreNamed = (version : Version) (is_space : Bool) (task : ℕ) → task < most_tasks version → (kept : CallWords) × IsKeptAs version is_space Plain (codes "signal") (decimal task ∷ []) kept × (signal_of kept ≡ Some task)
+SignalsAreNamed = (version : Version) (is_space : Bool) (task : ℕ) → task < most_tasks version → (kept : CallWords) × IsKeptAs version is_space Plain (codes "signal") (decimal task ∷ []) kept
+    × (signal_of kept ≡ Some task)

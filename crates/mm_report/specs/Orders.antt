@@ -18,7 +18,8 @@ calls_of task plan records = task_events task 0 (slice_index_or plan task []) (s
 -- A legal history has each call of a task once, in the task's order.
 abbrev pub KeepsOrder : {Call : Type 0} → Obj Call → Unavailable → Type 0
 KeepsOrder o unavailable =
-    (plan : Plan) (records : Records) (log : List Entry) (state : List ℕ) (task : ℕ) → IsLegal o unavailable plan records log state → filter (is_of task) (history o plan records log) ≡ calls_of task plan records
+    (plan : Plan) (records : Records) (log : List Entry) (state : List ℕ) (task : ℕ) → IsLegal o unavailable plan records log state
+    → filter (is_of task) (history o plan records log) ≡ calls_of task plan records
 
 -- a call of the plan, with its record
 pub record IsEventOf (plan : Plan) (records : Records) (v : Event) : Type 0 where
@@ -35,5 +36,6 @@ pub record Before (events : List Event) (first second : Event) : Type 0 where
 -- A legal history has its calls in the order of their positions: of two calls, the one with the smaller position stands before the other.
 abbrev pub KeepsPositions : {Call : Type 0} → Obj Call → Unavailable → Type 0
 KeepsPositions o unavailable =
-    (plan : Plan) (records : Records) (log : List Entry) (state : List ℕ) (first second : Event) → IsLegal o unavailable plan records log state → IsEventOf plan records first → IsEventOf plan records second
+    (plan : Plan) (records : Records) (log : List Entry) (state : List ℕ) (first second : Event) → IsLegal o unavailable plan records log state → IsEventOf plan records first
+    → IsEventOf plan records second
     → position o first.words first.told < position o second.words second.told → Before (history o plan records log) first second

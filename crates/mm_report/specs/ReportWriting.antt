@@ -34,12 +34,14 @@ module _ {Call : Type 0} (o : Obj Call) where
   module _ (s : Listing) (object : ℕ) (recs : List ℕ) (bound : ℕ) where
     abbrev pub WritesTask : {E : Type 0} → (task : ℕ) → Cursor → (old new : Option (List ℕ)) → (before now : List ℕ) → Result (Unit {0}) E → Type 0
     WritesTask task c old new before now result =
-        (lines : List Line) (rs : List Rec) (left : List Event) → slice_get s.tasks task ≡ Some lines → HasRecords object lines recs (first_record s object task) rs → IsAt o object task lines (first_record s object task) rs c left
+        (lines : List Line) (rs : List Rec) (left : List Event) → slice_get s.tasks task ≡ Some lines → HasRecords object lines recs (first_record s object task) rs
+        → IsAt o object task lines (first_record s object task) rs c left
         → Adds old new before now (flat_map (event_text s object) (front o bound left)) result
 
     abbrev pub PassesTask : {T E : Type 0} → (task : ℕ) → (old new : Cursor) → Result T E → Type 0
     PassesTask task c d result =
-        (lines : List Line) (rs : List Rec) (left : List Event) → slice_get s.tasks task ≡ Some lines → HasRecords object lines recs (first_record s object task) rs → IsAt o object task lines (first_record s object task) rs c left
+        (lines : List Line) (rs : List Rec) (left : List Event) → slice_get s.tasks task ≡ Some lines → HasRecords object lines recs (first_record s object task) rs
+        → IsAt o object task lines (first_record s object task) rs c left
         → OnOk result (IsAt o object task lines (first_record s object task) rs d (behind o bound left))
 
     -- the same of all tasks, one after the other

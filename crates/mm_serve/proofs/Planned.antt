@@ -13,11 +13,11 @@ use Rattle.word_bits.proofs.CallParts.{unthirded}
 use Rattle.vma_map.specs.declared.call.SpaceCall.{SpaceCall}
 use Rattle.vma_map.specs.declared.call.SpaceCall.TheVariants.{Map, MapAny, MapNew, Unmap, Protect, Populate, Fault, Remap}
 use Rattle.vma_map.specs.Spaces.{space, IsCall as IsSpaceCall, IsCallOf as IsSpaceCallOf, words_of_call as space_words_of}
-use Rattle.vma_map.specs.SpaceCallLaws.{call_of-complete as space_call_of}
+use Rattle.vma_map.specs.Laws.SpaceCall.{call_of-complete as space_call_of}
 use Rattle.fd_table.specs.declared.call.TableCall.{TableCall}
 use Rattle.fd_table.specs.declared.call.TableCall.TheVariants.{Open, Close, Dup, Dup2, Get}
 use Rattle.fd_table.specs.Tables.{table, IsCall as IsTableCall, IsCallOf as IsTableCallOf, words_of_call as table_words_of}
-use Rattle.fd_table.specs.TableCallLaws.{call_of-complete as table_call_of}
+use Rattle.fd_table.specs.Laws.TableCall.{call_of-complete as table_call_of}
 use Rattle.lock_core.specs.Records.{row, IsCallOrSignal}
 use Rattle.lock_core.proofs.RowLaws.{none-some, same-some}
 use Rattle.task_script.specs.declared.script.Line.{Line}

@@ -11,7 +11,8 @@ use Rattle.guarded.specs.ObjectCopying.{AreKnown}
 use Rattle.mm_report.specs.Orders.{IsEventOf}
 use Rattle.mm_serve.specs.MachinePasts.{KnowsPast}
 
--- A pass that knows each record which is told goes back to the cause of each call that is told: to the failed try, or to the signal that it consumed or sent. What the lock tells of its own isn't asked for.
+-- A pass that knows each record which is told goes back to the cause of each call that is told: to the failed try, or to the signal that it consumed or sent. What the lock tells of its own isn't
+-- asked for.
 abbrev pub RecalledCauses : {Call : Type 0} → Obj Call → Kind → (size word_at : ℕ) → (waits : Plan → Moment → List ℕ → Type 0) → (opened : Plan → Moment) → Type 0
 RecalledCauses o kind size word_at waits opened =
     (k : Plan) (u : Shown) (records : Records) (v : Event) → length k ≤ MAX_TASKS

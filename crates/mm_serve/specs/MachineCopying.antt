@@ -33,7 +33,8 @@ abbrev pub AreBlank : {S : Type 0} → (S → Bool) → (S → Plan) → List S 
 AreBlank {S} is_space calls_on sites words = (length words ≡ length sites) × ((k : ℕ) (s : S) (w : Words) → slice_get sites k ≡ Some s → slice_index_or words k w ≡ blank (is_space s) (calls_on s))
 
 module _ {S P : Type 0} (idle : S → P → Type 0) (hand : P → Hand) (past : P → List Moment) (is_space : S → Bool) (calls_on : S → Plan) where
-  -- The words of the object's number are one thread's history, of which the pass knows each record. The log and the state of that history are those of the object's table at a moment that the pass goes back to. At that moment a pass held alone and knew just the records that this one knows.
+  -- The words of the object's number are one thread's history, of which the pass knows each record. The log and the state of that history are those of the object's table at a moment that the pass
+  -- goes back to. At that moment a pass held alone and knew just the records that this one knows.
   abbrev pub IsCopied : List Words → ℕ → S → P → Type 0
   IsCopied words k s p = idle s p × ((w : Words) → IsKnownHistoryOn (is_space s) (calls_on s) (hand p) (slice_index_or words k w) × WasHeldWith (slice_index_or words k w) (hand p).records (past p))
 

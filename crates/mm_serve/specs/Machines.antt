@@ -46,7 +46,8 @@ module _ {S C P U : Type 0} where
   IsMachineOf is_space calls_on script m = AreSitesOf is_space calls_on script (sites_of m)
 
   module _ (idle : S → P → Type 0) (hand : P → Hand) (is_space : S → Bool) (calls_on : S → Plan) where
-    -- No pass of the machine has a number or has seen an entry: there is a worker for each task of the plans, one at least, with the task's calls counted by object and with a pass of each object, and the results are blank.
+    -- No pass of the machine has a number or has seen an entry: there is a worker for each task of the plans, one at least, with the task's calls counted by object and with a pass of each object, and
+    -- the results are blank.
     pub record IsFresh (m : Machine S C P U) : Type 0 where
       pub gathered : EachOf (λ k s p. idle s p) (sites_of m) (gathered_of m)
       pub ready : All (IsReady idle hand calls_on (sites_of m)) m.workers.items
@@ -55,13 +56,15 @@ module _ {S C P U : Type 0} where
       pub tasks : (k : ℕ) (s : S) → slice_get (sites_of m) k ≡ Some s → length (calls_on s) ≡ length m.workers.items
       pub blank : AreBlank is_space calls_on (sites_of m) (results_of m)
 
-  -- The objects are the same. All tasks have done their calls, and the results of each object are one thread's history, of which the gathered pass knows each record. The results of each have the log and the state of its table at one moment, at which a pass held alone and knew the same records.
+  -- The objects are the same. All tasks have done their calls, and the results of each object are one thread's history, of which the gathered pass knows each record. The results of each have the log
+  -- and the state of its table at one moment, at which a pass held alone and knew the same records.
   pub record HasRun (idle : S → P → Type 0) (hand : P → Hand) (past : P → List Moment) (is_space : S → Bool) (calls_on : S → Plan) (old new : Machine S C P U) : Type 0 where
     pub sites : sites_of new ≡ sites_of old
     pub long : length (results_of new) ≡ length (sites_of new)
     pub copied : EachOf (IsCopied idle hand past is_space calls_on (results_of new)) (sites_of new) (gathered_of new)
 
-  -- The log and the state in the results of each object are those of the object's table at a moment that its gathered pass goes back to. At that moment a pass held alone, didn't write, and knew just the records that the gathered pass knows.
+  -- The log and the state in the results of each object are those of the object's table at a moment that its gathered pass goes back to. At that moment a pass held alone, didn't write, and knew just
+  -- the records that the gathered pass knows.
   abbrev pub AreHeld : (P → Hand) → (P → List Moment) → Machine S C P U → Type 0
   AreHeld hand past m = (k : ℕ) (w : Words) (p : P) → slice_get (results_of m) k ≡ Some w → slice_get (gathered_of m) k ≡ Some p → WasHeldWith w (hand p).records (past p)
 
@@ -72,7 +75,8 @@ module _ {S C P U : Type 0} where
     pub legal : AreLegal script (results_of m) told
     pub known : AreAllKnown hand (gathered_of m) told
 
-  -- The gathered pass of each object goes back to a pass with each task's number. On the object's table it goes back to a step by which all the task's calls were recorded. On the spin queue it goes back to a look, of which no clause says when it was.
+  -- The gathered pass of each object goes back to a pass with each task's number. On the object's table it goes back to a step by which all the task's calls were recorded. On the spin queue it goes
+  -- back to a look, of which no clause says when it was.
   abbrev pub GoBackToTasks : (looked_back : S → P → ℕ → Type 0) → (past spun : P → List Moment) → (S → Plan) → Machine S C P U → Type 0
   GoBackToTasks looked_back past spun calls_on m = EachOf (λ k s p. GoesBackToTasks looked_back past spun calls_on s p) (sites_of m) (gathered_of m)
 

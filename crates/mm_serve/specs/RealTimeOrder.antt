@@ -1,4 +1,5 @@
--- That a history keeps the order in which its calls took effect. Each took effect at one step on the object's table, the one that stores its record (`IsLinearizable`). Of a call by `perform` that step is one of the call (`Performs.stored`), so this order has the real-time order in it: a call that was over before another began comes first.
+-- That a history keeps the order in which its calls took effect. Each took effect at one step on the object's table, the one that stores its record (`IsLinearizable`). Of a call by `perform` that
+-- step is one of the call (`Performs.stored`), so this order has the real-time order in it: a call that was over before another began comes first.
 use Rattle.std.specs.Prelude.{◌≡◌, ◌≢◌, ◌⊎◌, ℕ, false, List, ◌∷◌}
 use Rattle.word_bits.specs.declared.entry.Entry.{Entry}
 use Rattle.word_bits.specs.LockWords.{Unavailable}

@@ -41,12 +41,15 @@ module _ {A S R X P E C T F G Y Q H D : Type 0} (spaces : LockMembers A P) (tabl
   abbrev pub IsIdleUnder : LockedObject A S R X P E C T F G Y Q H D → SpaceOrTablePass P Q → Type 0
   IsIdleUnder = Matches (λ s p. spaces.sits (lock_of s) p × IsIdle (spaces.view p).hand) (λ s p. tables.sits (lock_of s) p × IsIdle (tables.view p).hand)
 
-  -- the pass knows what was so of the object's table at each moment so far: what every lock tells, and what this kind of lock tells of its own. It also knows what the lock tells of its spin queue, up to the pass's last step there.
+  -- the pass knows what was so of the object's table at each moment so far: what every lock tells, and what this kind of lock tells of its own. It also knows what the lock tells of its spin queue, up
+  -- to the pass's last step there.
   abbrev pub KnowsPastUnder : LockedObject A S R X P E C T F G Y Q H D → SpaceOrTablePass P Q → Type 0
   KnowsPastUnder =
       Matches
-      (λ s p. KnowsPast space spaces.kind 257 spaces.word_at spaces.waits spaces.tells spaces.opened (spaces.calls_on (lock_of s)) (spaces.view p) × spaces.tells_queue (spaces.calls_on (lock_of s)) (spaces.view p) (spaces.spun p))
-      (λ s p. KnowsPast table tables.kind 64 tables.word_at tables.waits tables.tells tables.opened (tables.calls_on (lock_of s)) (tables.view p) × tables.tells_queue (tables.calls_on (lock_of s)) (tables.view p) (tables.spun p))
+      (λ s p. KnowsPast space spaces.kind 257 spaces.word_at spaces.waits spaces.tells spaces.opened (spaces.calls_on (lock_of s)) (spaces.view p)
+      × spaces.tells_queue (spaces.calls_on (lock_of s)) (spaces.view p) (spaces.spun p))
+      (λ s p. KnowsPast table tables.kind 64 tables.word_at tables.waits tables.tells tables.opened (tables.calls_on (lock_of s)) (tables.view p)
+      × tables.tells_queue (tables.calls_on (lock_of s)) (tables.view p) (tables.spun p))
 
   -- The pass has the task's number, and by its own last step all the task's calls were recorded. It knows what the lock tells of its spin queue, up to its own last step there.
   abbrev pub HasLookedBackUnder : LockedObject A S R X P E C T F G Y Q H D → SpaceOrTablePass P Q → ℕ → Type 0

@@ -16,7 +16,7 @@ use Rattle.wait_list.specs.declared.view.Waiter.{Waiter}
 use Rattle.wait_list.specs.Lists.{AreTasks, first_code, first_of, sighted}
 use Rattle.wake_duty.specs.declared.view.Duty.TheVariants.{NoDuty, Owing}
 use Rattle.wake_duty.specs.DutyWakes.{owed, chose_any, duty_of, choosing, owing_at, drowsing, dozed_at, waked}
-use Rattle.wake_duty.specs.WakeLaws.{duty-first, waits-drowsing}
+use Rattle.wake_duty.specs.Laws.Wake.{duty-first, waits-drowsing}
 use Rattle.wake_duty.specs.WakeSteps.{HasTried}
 use Rattle.mutex_slow.specs.Mutexes.{V, OwesNoWake, is_code, saw_first, turned, wait_state_of, with_wake}
 use Rattle.mutex_slow.specs.MutexPlaces.{IsInLine, IsOutside, IsToWake, OwesWake, dozes_of, task_of}

@@ -5,7 +5,7 @@ use Rattle.lock_core.specs.declared.view.Moment.{Moment}
 use Rattle.lock_core.specs.declared.view.Held.TheVariants.{No}
 use Rattle.lock_core.specs.Holding.{missed}
 use Rattle.lock_core.specs.Pasts.{GoesOn, FoundAt, FoundAtStep, IsOwnStep}
-use Rattle.lock_core.specs.SiteRunLaws.{found-at-step}
+use Rattle.lock_core.specs.Laws.SiteRun.{found-at-step}
 use Rattle.lock_core.specs.Kinds.{mutex}
 use Rattle.lock_core.specs.Shown.{shown}
 use Rattle.lock_core.specs.Locking.{Misses}

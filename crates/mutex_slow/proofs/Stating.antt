@@ -23,19 +23,19 @@ use Rattle.lock_core.proofs.HandLaws.{false-or-true, held-none, number-or-not, n
 use Rattle.lock_core.proofs.Stating.{kept-states}
 use Rattle.lock_core.proofs.WordSteps.{some-of}
 use Rattle.mutex_word.specs.Holders.{OwnKept, IsHolder}
-use Rattle.mutex_word.specs.OwnLaws.{Named, no-codes, only-code, alone-code}
+use Rattle.mutex_word.specs.Laws.Own.{Named, no-codes, only-code, alone-code}
 use Rattle.wait_list.specs.declared.view.Waiter.{Waiter}
 use Rattle.wait_list.specs.Lists.{Part, PartOk, changes_of, counted, first_code, list_part}
 use Rattle.mutex_slow.specs.Mutexes.{V, Flagged, Kept, MutexKept, list_of, owner_in, point_of, queued_of, standing, standing_of, chosen_code, awake_bit, wake_words, Standing}
-use Rattle.mutex_slow.specs.CoupledLaws.{is-in, not-in, point-held}
-use Rattle.mutex_slow.specs.MutexLaws.{apart}
+use Rattle.mutex_slow.specs.Laws.Coupled.{is-in, not-in, point-held}
+use Rattle.mutex_slow.specs.Laws.Mutex.{apart}
 use Rattle.wake_duty.specs.declared.view.Duty.{Duty}
 use Rattle.wake_duty.specs.declared.view.Duty.TheVariants.{NoDuty, Owing, Chosen}
 use Rattle.wake_duty.specs.declared.view.WaitState.{WaitState}
 use Rattle.wake_duty.specs.declared.view.WaitState.TheVariants.{Absent, Awake, Tried}
 use Rattle.wake_duty.specs.DutyWakes.{WakePart, owed, chose, awake, waits, keeps_awake, wake_word}
-use Rattle.mutex_slow.specs.DutyLaws.{wparted, first-small, some-of as any-of}
-use Rattle.mutex_slow.specs.StandingLaws.{owed-some, owes-none}
+use Rattle.mutex_slow.specs.Laws.Duty.{wparted, first-small, some-of as any-of}
+use Rattle.mutex_slow.specs.Laws.Standing.{owed-some, owes-none}
 use Rattle.mutex_slow.specs.MutexStated.{line_marks, waits_in, HasDuty, IsListed, IsMutexThen, OwesNone}
 
 -- who holds, by a word that picks nobody

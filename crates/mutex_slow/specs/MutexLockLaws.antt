@@ -2,7 +2,7 @@
 use Rattle.word_bits.specs.Objects.{Obj}
 use Rattle.lock_core.specs.Shown.{Stands}
 use Rattle.lock_core.specs.Sitting.{SitsIdle}
-use Rattle.sleep_lock.specs.LockLaws.{site-stands}
+use Rattle.sleep_lock.specs.Laws.Lock.{site-stands}
 use Rattle.mutex_slow.specs.declared.calls.Mutex.{Mutex}
 use Rattle.mutex_slow.specs.declared.calls.MutexPass.{MutexPass}
 use Rattle.mutex_slow.specs.MutexHandles.{plan_of, shown_of, SitsAt}

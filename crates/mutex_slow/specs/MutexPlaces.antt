@@ -5,7 +5,7 @@ use Rattle.cpu_task.specs.CpuCounting.{one_more, Rises, SleepsInTurns}
 use Rattle.lock_core.specs.declared.view.Line.{Line}
 use Rattle.lock_core.specs.declared.pass.Pass.{Pass}
 use Rattle.lock_core.specs.declared.site.Site.{Site}
-use Rattle.lock_core.specs.SiteHandles.{plan_of, view_of, hand_in, past_of, task_in, SitsAt, KeepsPast}
+use Rattle.lock_core.specs.SiteHandles.{plan_of, view_of, hand_in, past_of}
 use Rattle.word_bits.specs.Objects.{Obj}
 use Rattle.lock_core.specs.declared.view.Held.{Held}
 use Rattle.lock_core.specs.declared.view.Held.TheVariants.{No, Alone}
@@ -70,13 +70,6 @@ module _ {R O C : Type 0} where
   -- a pass of the site, as callers of any lock see it
   abbrev pub seen_of : Pass R O MutexHand C → Shown
   seen_of pass = shown line_of (view_of pass).fronts (view_of pass) (past_of pass)
-
-  -- it made some steps, and is one of the site's as before
-  pub record MovesOn (site : Site R O MutexHand C) (old new : Pass R O MutexHand C) : Type 0 where
-    pub own : SitsAt site new
-    pub task : task_in new ≡ task_in old
-    pub goes_on : KeepsPast old new
-    pub steps : (view_of old).steps ≤ (view_of new).steps
 
   -- it holds alone
   abbrev pub TakesAlone : {Call : Type 0} → Obj Call → Site R O MutexHand C → Pass R O MutexHand C → Pass R O MutexHand C → Type 0
@@ -156,17 +149,21 @@ abbrev pub Names : Option Waiter → ℕ → Type 0
 Names None word = word < 2
 Names (Some w) word = (word / 8 ≡ w.task + 1) × (4 ≤ word % 8)
 
--- A step behind the one of this number found the list's head, which has the code of this waiter or 0. A later one found the task's code in the owner word and ended the hold, and the pass had the wait lock then. The word that the pass left names the waiter.
+-- A step behind the one of this number found the list's head, which has the code of this waiter or 0. A later one found the task's code in the owner word and ended the hold, and the pass had the wait
+-- lock then. The word that the pass left names the waiter.
 abbrev pub NamesFirst : ℕ → Option Waiter → Shown → Shown → Type 0
-NamesFirst begun first v u = ((step n looked : ℕ) × (own : FindsOwnCode step n No v u) × HasWaitLock own.2.0.by.seat own.2.0.by.now × (looked < step) × FoundSince v.hand.task begun looked list_at (waiter_code first) v.past u.past) × Names first u.hand.freed
+NamesFirst begun first v u = ((step n looked : ℕ) × (own : FindsOwnCode step n No v u) × HasWaitLock own.2.0.by.seat own.2.0.by.now × (looked < step)
+    × FoundSince v.hand.task begun looked list_at (waiter_code first) v.past u.past) × Names first u.hand.freed
 
 -- it found a handoff asked for; then it took the wait lock; and then it found the first waiter, and named it, or nobody where none waited
 abbrev pub EndsAsked : Shown → Shown → Type 0
 EndsAsked v u = (v.spin.entries < u.spin.entries) × ((step : ℕ) × FindsAsked step v u × (step < u.spin.took)) × ((first : Option Waiter) × NamesFirst u.spin.took first v u)
 
--- a call that ended its hold: Where no flag was left, it set no wake word. Else it set one wake word where there is a task of this code, and none where there isn't: a step, made since it took the wait lock, found the list's head, which has the code of this task or 0.
+-- a call that ended its hold: Where no flag was left, it set no wake word. Else it set one wake word where there is a task of this code, and none where there isn't: a step, made since it took the
+-- wait lock, found the list's head, which has the code of this task or 0.
 abbrev pub WakesFirst : (before after : ℕ) → Shown → Shown → Type 0
-WakesFirst before after v u = ((u.hand.freed ≡ 0) × (after ≡ before)) ⊎ ((first : Option ℕ) × FoundSince v.hand.task u.spin.took u.steps list_at (task_code first) v.past u.past × (after ≡ wakes_after first before))
+WakesFirst before after v u = ((u.hand.freed ≡ 0) × (after ≡ before)) ⊎
+    ((first : Option ℕ) × FoundSince v.hand.task u.spin.took u.steps list_at (task_code first) v.past u.past × (after ≡ wakes_after first before))
 
 -- how a call that releases ends its hold
 abbrev pub EndsHold : Shown → Shown → Type 0
@@ -184,7 +181,8 @@ pub record WentInLine (v u : Shown) : Type 0 where
   pub fronts : u.fronts ≡ v.fronts
   pub few : u.hand.misses ≤ v.hand.misses + 1
 
--- what a call that had appended itself counted on its CPU: it took the wait lock once, and once more behind each turn in which it slept or was woken before; before, the CPU had answered that it needs rescheduling
+-- what a call that had appended itself counted on its CPU: it took the wait lock once, and once more behind each turn in which it slept or was woken before; before, the CPU had answered that it needs
+-- rescheduling
 abbrev pub CountsInLine : (sleeps sleeps' rescheds rescheds' : ℕ) → Shown → Shown → Type 0
 CountsInLine sleeps sleeps' rescheds rescheds' v u = SleepsInTurns (v.spin.entries + 1) u.spin.entries sleeps sleeps' × (rescheds ≤ rescheds') × Rises rescheds rescheds'
 

@@ -21,9 +21,11 @@ use Rattle.wait_list.specs.declared.view.Change.{Change}
 use Rattle.wait_list.specs.declared.view.Change.TheVariants.{Stay, Enter, Leave}
 use Rattle.wait_list.specs.Lists.{Allowed, IsList, Lists, changed, counted, first_code}
 use Rattle.wake_duty.specs.DutyWakes.{wake_word}
-use Rattle.mutex_slow.specs.Mutexes.{AnswersHandoff, Asks, HasHandoff, entered, IsFirstTask, IsUnpicked, Leaves, LeavesToFirst, Standing, WakesGo, numbers_of, PicksFirst, list_words, owner_at, owner_in, wake_words}
+use Rattle.mutex_slow.specs.Mutexes.{AnswersHandoff, Asks, HasHandoff, entered, IsFirstTask, IsUnpicked, Leaves, LeavesToFirst, Standing, WakesGo, numbers_of, PicksFirst, list_words, owner_at}
+use Rattle.mutex_slow.specs.Mutexes.{owner_in, wake_words}
 
--- Without the pickup flag the word names the task that holds, or nobody where nobody does. With it nobody holds, and the word names the first waiter. The flags of the handoff and of the pickup are never both set. While the wait lock is free, the flag of the waiters is set exactly where tasks wait, and the other two only there.
+-- Without the pickup flag the word names the task that holds, or nobody where nobody does. With it nobody holds, and the word names the first waiter. The flags of the handoff and of the pickup are
+-- never both set. While the wait lock is free, the flag of the waiters is set exactly where tasks wait, and the other two only there.
 pub record StatesOwner (word : ℕ) (free : Type 0) (l : List Waiter) (hs : List Hand) : Type 0 where
   pub holder : word % 8 < 4 → (task : Option ℕ) × (word / 8 ≡ task_code task) × IsHolder hs task
   pub picked : 4 ≤ word % 8 → IsHolder hs None × PicksFirst word l × (0 < length l)
@@ -45,7 +47,8 @@ waits_in l (Some t) = counted t l
 abbrev pub StandsMarked : ℕ → Standing → Moment → Type 0
 StandsMarked id s m = get_elem? m.marks id ≡ some (line_marks s)
 
--- who has the duty to wake this waiter, or that it needs nobody: A pass ended its hold, left the flag of the waiters, and has chosen nobody yet. Or one has chosen it, and hasn't set its wake word yet. Or that word is set. Or it is awake, and tries before it sleeps.
+-- who has the duty to wake this waiter, or that it needs nobody: A pass ended its hold, left the flag of the waiters, and has chosen nobody yet. Or one has chosen it, and hasn't set its wake word
+-- yet. Or that word is set. Or it is awake, and tries before it sleeps.
 abbrev pub HasDuty : Moment → ℕ → Type 0
 HasDuty m t = ((id : ℕ) × (h : Hand) × (s : Standing) × (get_elem? m.hands id ≡ some h) × StandsMarked id s m × (s.debt ≡ 1) × (h.freed % 2 ≡ 1))
     ⊎ ((id : ℕ) × (h : Hand) × (s : Standing) × (get_elem? m.hands id ≡ some h) × StandsMarked id s m × (s.chosen ≡ t + 1))
@@ -56,7 +59,8 @@ HasDuty m t = ((id : ℕ) × (h : Hand) × (s : Standing) × (get_elem? m.hands 
 abbrev pub OwesNone : Standing → Hand → Type 0
 OwesNone s h = (s.chosen ≡ 0) × (s.debt ≡ 1 → h.freed % 2 ≡ 0)
 
--- while this is the list: Its words state it while the wait lock is free. Each waiter has a pass, and each pass has a mark, which says whether its task waits. A pass without a task has no wake to do. The owner word states who holds, who is picked, and whether tasks wait. Where nobody holds, somebody has the duty to wake the first waiter, or it needs nobody.
+-- while this is the list: Its words state it while the wait lock is free. Each waiter has a pass, and each pass has a mark, which says whether its task waits. A pass without a task has no wake to do.
+-- The owner word states who holds, who is picked, and whether tasks wait. Where nobody holds, somebody has the duty to wake the first waiter, or it needs nobody.
 pub record IsListed (m : Moment) (l : List Waiter) : Type 0 where
   pub sound : IsList l
   pub states : IsWaitLockFree m.spins → Lists (list_words m.words) l
@@ -87,7 +91,10 @@ MadeBy (Leave t) id h m = HasWaitLock id m × (h.task ≡ Some t) × IsUnpicked 
 abbrev pub TakesUp : Hand → ℕ → ℕ → Type 0
 TakesUp h n n' = ((t : ℕ) × (h.task ≡ Some t) × (n / 8 ≡ t + 1)) × (n' + 4 ≡ n)
 
--- One step of one pass, made while this was the list: the list changes by one append or one removal, which keeps the others in order. A step that ends a hold while a handoff is asked for picks the first waiter. A word that picks a waiter is changed by that waiter alone, which takes. The first waiter alone asks for a handoff. The flag of the handoff stays until the holder names the first waiter, or nobody waits. Who ends a hold keeps the word that its step left; under the wait lock that word picks the first waiter, or names nobody where nobody waits. Each append is counted by the pass that enters, and a failed try by a pass that stands outside the list. What the pass owes, how its task waits, and the wake words go as `WakesGo` says.
+-- One step of one pass, made while this was the list: the list changes by one append or one removal, which keeps the others in order. A step that ends a hold while a handoff is asked for picks the
+-- first waiter. A word that picks a waiter is changed by that waiter alone, which takes. The first waiter alone asks for a handoff. The flag of the handoff stays until the holder names the first
+-- waiter, or nobody waits. Who ends a hold keeps the word that its step left; under the wait lock that word picks the first waiter, or names nobody where nobody waits. Each append is counted by the
+-- pass that enters, and a failed try by a pass that stands outside the list. What the pass owes, how its task waits, and the wake words go as `WakesGo` says.
 pub record IsMutexStep (k : Plan) (x : Moment) (l : List Waiter) (y : Moment) (l' : List Waiter) : Type 0 where
   pub by : IsSiteStep k owner_at x y
   pub change : Change

@@ -64,7 +64,8 @@ awake_bit Absent = 0
 awake_bit Awake = 1
 awake_bit (Tried n) = 0
 
--- how a pass stands in line: Whether its task is in the list, and how often it has appended itself. Whether it ended its hold by a release and hasn't looked for a first waiter since. The code of the task that it has chosen, whose wake word it hasn't set. Whether its task waits and tries before it sleeps. How many wake words it has set. How often it has fallen asleep.
+-- how a pass stands in line: Whether its task is in the list, and how often it has appended itself. Whether it ended its hold by a release and hasn't looked for a first waiter since. The code of the
+-- task that it has chosen, whose wake word it hasn't set. Whether its task waits and tries before it sleeps. How many wake words it has set. How often it has fallen asleep.
 pub record Standing : Type 0 where
   pub queued : ℕ
   pub appends : ℕ
@@ -75,7 +76,16 @@ pub record Standing : Type 0 where
   pub dozes : ℕ
 
 abbrev pub standing_of : MutexHand → Standing
-standing_of e = record { queued = bit e.queued; appends = e.appends; debt = debt_of e.wake.duty; chosen = chosen_code e.wake.duty; awake = awake_bit e.wake.wait_state; wakes = e.wake.wakes; dozes = e.wake.dozes }
+standing_of e = record {
+  queued = bit e.queued;
+  appends = e.appends;
+  debt = debt_of e.wake.duty;
+  chosen = chosen_code e.wake.duty;
+  awake = awake_bit e.wake.wait_state;
+  wakes = e.wake.wakes;
+  dozes =
+      e.wake.dozes;
+}
 
 -- what a moment keeps of a pass that stands so
 abbrev pub numbers_of : Standing → List ℕ
@@ -256,7 +266,10 @@ EndsChoice words' s s' = (s'.chosen ≡ 0) × SetsChosen words' (λ t. s.chosen 
 abbrev pub FailsUnderLock : (n locked : ℕ) → Hand → Type 0
 FailsUnderLock n locked h = (locked ≡ 1) × (8 ≤ n) × ((t : ℕ) × (h.task ≡ Some t) × IsUnpicked n t)
 
--- What a step of a pass does to the wake words, to what it owes and to how its task waits. `n` is the owner word, `l` the list and `c` its change. `locked` is 1 where the pass had the wait lock. `h` and `s` stand before the step. Nobody owes but by ending a hold, and who ends one owes, or has chosen the first waiter by that step. Nobody chooses but to end a debt with the flag of the waiters, or by the step that ends its hold. Such a debt ends by a choice of the first waiter, and a choice by the store of its wake word. A task falls asleep only while it holds nothing, and after it isn't to try any more, and so it is by a try that failed under the wait lock, or by leaving. It is to try once it enters, or once it has made a step without the wait lock by which it didn't fall asleep.
+-- What a step of a pass does to the wake words, to what it owes and to how its task waits. `n` is the owner word, `l` the list and `c` its change. `locked` is 1 where the pass had the wait lock. `h`
+-- and `s` stand before the step. Nobody owes but by ending a hold, and who ends one owes, or has chosen the first waiter by that step. Nobody chooses but to end a debt with the flag of the waiters,
+-- or by the step that ends its hold. Such a debt ends by a choice of the first waiter, and a choice by the store of its wake word. A task falls asleep only while it holds nothing, and after it isn't
+-- to try any more, and so it is by a try that failed under the wait lock, or by leaving. It is to try once it enters, or once it has made a step without the wait lock by which it didn't fall asleep.
 pub record WakesGo (n : ℕ) (l : List Waiter) (c : Change) (words words' : List ℕ) (locked : ℕ) (h h' : Hand) (s s' : Standing) : Type 0 where
   pub words_go : (t : ℕ) → t < MAX_TASKS → WordGoes words words' h.task locked s.queued s.awake (λ u. s.chosen ≡ u + 1) t
   pub owes : s.debt ≡ 0 → s'.debt ≡ 1 → (h.held ≡ Alone) × (h'.held ≡ No)
@@ -270,7 +283,10 @@ pub record WakesGo (n : ℕ) (l : List Waiter) (c : Change) (words words' : List
   pub wakes_it : s.awake ≡ 0 → s'.awake ≡ 1 → (entered c ≡ 1) ⊎ ((locked ≡ 0) × (s'.dozes ≡ s.dozes))
   pub tries : s.awake ≡ 1 → s'.awake ≡ 0 → (left c ≡ 1) ⊎ FailsUnderLock n locked h
 
--- What a step may do: all that each step of a site, of a spin lock and of a list does. Where it ends a hold while a handoff is asked for, it picks the first waiter. A word that picks a waiter is changed by that waiter alone, which takes. The first waiter alone asks for a handoff. The flag of the handoff stays until the holder names the first waiter or nobody waits. Who ends a hold keeps the word that it left, which is the first waiter's where it has the wait lock. An append is counted by the pass that enters, and a failed try by one that stands outside the list. `WakesGo` says what becomes of the wake words.
+-- What a step may do: all that each step of a site, of a spin lock and of a list does. Where it ends a hold while a handoff is asked for, it picks the first waiter. A word that picks a waiter is
+-- changed by that waiter alone, which takes. The first waiter alone asks for a handoff. The flag of the handoff stays until the holder names the first waiter or nobody waits. Who ends a hold keeps
+-- the word that it left, which is the first waiter's where it has the wait lock. An append is counted by the pass that enters, and a failed try by one that stands outside the list. `WakesGo` says
+-- what becomes of the wake words.
 pub record MutexMoves (k : Plan) (id : ℕ) (ws : List ℕ) (vs : List V) (us : List ℕ) (vs' : List V) : Type 0 where
   pub site : SiteMove id (owner_in ws) (site k ws) vs (site k us) vs'
   pub spin : SpinMoves id (spin_words ws) (map spin_part vs) (spin_words us) (map spin_part vs')
@@ -284,7 +300,8 @@ pub record MutexMoves (k : Plan) (id : ℕ) (ws : List ℕ) (vs : List V) (us : 
   pub names : site.before.hand.held ≡ Alone → site.after.hand.held ≡ No → HasLock site.after → LeavesToFirst (owner_in us) list.list
   pub appends : site.after.ext.appends ≡ site.before.ext.appends + entered list.change
   pub missed : site.after.hand.misses ≢ site.before.hand.misses → site.before.ext.queued ≡ false
-  pub wakes : WakesGo (owner_in ws) list.list list.change (wake_words ws) (wake_words us) (holds_in site.before.spin) site.before.hand site.after.hand (standing_of site.before.ext) (standing_of site.after.ext)
+  pub wakes : WakesGo (owner_in ws) list.list list.change (wake_words ws) (wake_words us) (holds_in site.before.spin) site.before.hand site.after.hand (standing_of site.before.ext)
+      (standing_of site.after.ext)
 
 abbrev pub may_free : V → Type 0
 may_free v = (v.ext.point ≡ Rest) × (v.ext.list.changes ≡ false)
@@ -302,7 +319,8 @@ may_own Fail v n m = (m ≡ n) × (8 ≤ n) × (v.ext.point ≡ Rest) × ((t : �
 may_own Take v n m = (v.hand.held ≡ No) × ((t : ℕ) × (v.hand.task ≡ Some t) × IsTake t n m) × OwesNoWake v
 may_own Ask v n m = (v.ext.first ≡ true) × (v.ext.point ≡ Rest) × IsAsk n m
 may_own Free v n m = (v.hand.held ≡ Alone) × SpinRests v.spin × (n % 8 < 2) × (m ≡ n % 8) × (v.ext.queued ≡ false) × OwesNoWake v
-may_own HandOn v n m = (v.hand.held ≡ Alone) × ((v.ext.queued ≡ false) × OwesNoWake v) × KnowsList v × (n % 8 < 4) × ((length v.ext.list.list ≡ 0 → m ≡ n % 2) × (0 < length v.ext.list.list → m ≡ 8 * first_code v.ext.list.list + 4 + n % 2))
+may_own HandOn v n m = (v.hand.held ≡ Alone) × ((v.ext.queued ≡ false) × OwesNoWake v) × KnowsList v × (n % 8 < 4)
+    × ((length v.ext.list.list ≡ 0 → m ≡ n % 2) × (0 < length v.ext.list.list → m ≡ 8 * first_code v.ext.list.list + 4 + n % 2))
 may_own Flag v n m = (v.ext.point ≡ Joins) × (n % 2 ≡ 0 → m ≡ n + 1)
 may_own Clear v n m = (v.ext.point ≡ Empties) × (m + n % 8 ≡ n)
 
@@ -324,13 +342,22 @@ turned Clear v = record v.ext { point = Rest }
 
 abbrev pub with_list : Change → V → ListHand → MutexHand
 with_list Stay v b = record v.ext { list = b }
-with_list (Enter w) v b = record v.ext { list = b; queued = true; first = false; point = if length b.list == 1 then Joins else Rest; appends = v.ext.appends + 1; wake = record v.ext.wake { wait_state = Awake } }
+with_list (Enter w) v b = record v.ext {
+  list = b;
+  queued = true;
+  first = false;
+  point = if length b.list == 1 then Joins else Rest;
+  appends = v.ext.appends + 1;
+  wake =
+      record v.ext.wake { wait_state = Awake };
+}
 with_list (Leave t) v b = record v.ext { list = b; queued = false; first = false; point = if length b.list == 0 then Empties else Rest; wake = record v.ext.wake { wait_state = Absent } }
 
 abbrev pub may_change : Change → V → List Waiter → Type 0
 may_change Stay v l = Unit {0}
 may_change (Enter w) v l = (v.hand.task ≡ Some w.task) × (v.ext.queued ≡ false) × (v.ext.point ≡ Rest) × (v.hand.held ≡ No) × (w.writer ≡ true) × OwesNoWake v
-may_change (Leave t) v l = (v.hand.task ≡ Some t) × (v.ext.queued ≡ true) × (v.ext.point ≡ Rest) × ((v.hand.held ≡ Alone) ⊎ ((v.ext.failed ≡ v.spin.entries) × (v.ext.wake.wait_state ≡ Tried v.spin.entries)))
+may_change (Leave t) v l = (v.hand.task ≡ Some t) × (v.ext.queued ≡ true) × (v.ext.point ≡ Rest)
+    × ((v.hand.held ≡ Alone) ⊎ ((v.ext.failed ≡ v.spin.entries) × (v.ext.wake.wait_state ≡ Tried v.spin.entries)))
 
 abbrev pub is_code : Option ℕ → ℕ → Bool
 is_code None n = false

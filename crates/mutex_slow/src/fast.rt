@@ -3,9 +3,9 @@ ghost use Rattle.std.specs.Prelude.{◌≡◌, ◌+◌, Bool, IsSome, IfOk, IfEr
 ghost use Rattle.lock_core.specs.declared.view.Held.TheVariants.{No};
 ghost use Rattle.lock_core.specs.Kinds.{mutex};
 ghost use Rattle.lock_core.specs.Locking.{Misses, OnlyTried};
-ghost use Rattle.lock_core.specs.SiteHandles.{view_of, hand_in, task_in, held_in, SitsAt};
+ghost use Rattle.lock_core.specs.SiteHandles.{view_of, hand_in, task_in, held_in, SitsAt, MovesOn};
 ghost use Rattle.mutex_slow.specs.Mutexes.{OwesNoWake, owner_at};
-ghost use Rattle.mutex_slow.specs.MutexPlaces.{seen_of, MovesOn, TakesAlone, TakesOpen, KeepsMisses, StandsSame, IsOutside, KeepsWakes};
+ghost use Rattle.mutex_slow.specs.MutexPlaces.{seen_of, TakesAlone, TakesOpen, KeepsMisses, StandsSame, IsOutside, KeepsWakes};
 
 use crate::rule::MutexRule;
 use lock_core::{Pass, Site};

@@ -4,9 +4,9 @@ ghost use Rattle.lock_core.specs.declared.view.Held.TheVariants.{No};
 ghost use Rattle.lock_core.specs.Views.{SpinHolds, SpinRests};
 ghost use Rattle.lock_core.specs.Kinds.{mutex};
 ghost use Rattle.lock_core.specs.Locking.{Interrupts};
-ghost use Rattle.lock_core.specs.SiteHandles.{view_of, task_in, held_in, SitsAt};
+ghost use Rattle.lock_core.specs.SiteHandles.{view_of, task_in, held_in, SitsAt, MovesOn};
 ghost use Rattle.mutex_slow.specs.Mutexes.{OwesNoWake, owner_at};
-ghost use Rattle.mutex_slow.specs.MutexPlaces.{seen_of, MovesOn, TakesAlone, TakesOpen, KeepsHand, KeepsFronts, IsOutside, IsInLine, KeepsWakes, SetsNoWord, dozes_of, GotInLine, WentInLine};
+ghost use Rattle.mutex_slow.specs.MutexPlaces.{seen_of, TakesAlone, TakesOpen, KeepsHand, KeepsFronts, IsOutside, IsInLine, KeepsWakes, SetsNoWord, dozes_of, GotInLine, WentInLine};
 ghost use Rattle.lock_core.specs.declared.how.How.TheVariants.{Spun};
 ghost use Rattle.cpu_task.specs.CpuCounting.{Dozes, SleepsInTurns};
 

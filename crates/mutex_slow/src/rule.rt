@@ -3,7 +3,7 @@ ghost use Rattle.std.specs.Prelude.{◌<◌, false, refl};
 ghost use Rattle.word_bits.specs.LockWords.{owned};
 ghost use Rattle.lock_core.specs.SpinTables.{one-some, one-eight};
 ghost use Rattle.mutex_slow.specs.Mutexes.{Kept, MutexMoves, idle, list_at, list_of, may_change, may_free, may_miss, may_own, owner_at, rests, saw_first, turned, uncounted, standing, wait_state_of, wakes_at, with_list, HasChosen, after_set, after_swap, MutexKept};
-ghost use Rattle.mutex_slow.specs.MutexLaws.{list-again, list-back, list-inside, list-over, list-same, may-on, may-stay, own-inside, spin-inside, own-there, list-room, mutex-few, mutex-firsts, mutex-joins, mutex-list, mutex-list-may, mutex-lists, mutex-opens, mutex-bits, mutex-sets, mutex-swaps, wake-inside, mutex-own, mutex-own-looks, mutex-own-may, mutex-owns, mutex-queued, mutex-site, mutex-sites, mutex-spin, mutex-spins, mutex-splits};
+ghost use Rattle.mutex_slow.specs.Laws.Mutex.{list-again, list-back, list-inside, list-over, list-same, may-on, may-stay, own-inside, spin-inside, own-there, list-room, mutex-few, mutex-firsts, mutex-joins, mutex-list, mutex-list-may, mutex-lists, mutex-opens, mutex-bits, mutex-sets, mutex-swaps, wake-inside, mutex-own, mutex-own-looks, mutex-own-may, mutex-owns, mutex-queued, mutex-site, mutex-sites, mutex-spin, mutex-spins, mutex-splits};
 
 use crate::view::MutexHand;
 use lock_core::{LOCK_WORDS, SPIN_ROOM, SiteRule, SpinHost};

@@ -4,11 +4,11 @@ ghost use Rattle.lock_core.specs.declared.view.Held.TheVariants.{No};
 ghost use Rattle.lock_core.specs.Views.{SpinHolds, SpinRests};
 ghost use Rattle.lock_core.specs.Locking.{SawPending};
 ghost use Rattle.lock_core.specs.Signals.{OnlyConsumed};
-ghost use Rattle.lock_core.specs.SiteHandles.{view_of, task_in, held_in, SitsAt};
+ghost use Rattle.lock_core.specs.SiteHandles.{view_of, task_in, held_in, SitsAt, MovesOn};
 ghost use Rattle.lock_core.specs.Tallies.{raised};
 ghost use Rattle.wake_duty.specs.WakeSteps.{HasTried};
 ghost use Rattle.mutex_slow.specs.Mutexes.{wait_state_of};
-ghost use Rattle.mutex_slow.specs.MutexPlaces.{seen_of, MovesOn, TakesAlone, TakesOpen, KeepsHand, KeepsMisses, KeepsFronts, StandsSame, IsInLine, HasFailed, KeepsWakes, SetsNoWord, dozes_of, KeepsAppends};
+ghost use Rattle.mutex_slow.specs.MutexPlaces.{seen_of, TakesAlone, TakesOpen, KeepsHand, KeepsMisses, KeepsFronts, StandsSame, IsInLine, HasFailed, KeepsWakes, SetsNoWord, dozes_of, KeepsAppends};
 ghost use Rattle.cpu_task.specs.CpuCounting.{Dozes, DozesOnce, Rises, SleepsInTurns};
 
 use crate::leave::interrupted;

@@ -1,9 +1,9 @@
 //! The wait lock of a mutex, under which its list changes.
 ghost use Rattle.std.specs.Prelude.{◌≡◌, ◌⊎◌, IsSome};
 ghost use Rattle.lock_core.specs.Views.{SpinHolds, SpinRests};
-ghost use Rattle.lock_core.specs.SiteHandles.{view_of, task_in, SitsAt};
+ghost use Rattle.lock_core.specs.SiteHandles.{view_of, task_in, SitsAt, MovesOn};
 ghost use Rattle.qspin_word.specs.Ways.{SpinGained};
-ghost use Rattle.mutex_slow.specs.MutexPlaces.{MovesOn, KeepsHand, KeepsFronts, IsOutside, IsInLine};
+ghost use Rattle.mutex_slow.specs.MutexPlaces.{KeepsHand, KeepsFronts, IsOutside, IsInLine};
 
 use crate::rule::MutexRule;
 use lock_core::{Pass, Site};

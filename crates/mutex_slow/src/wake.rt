@@ -1,12 +1,12 @@
 //! How the first waiter is chosen, and woken.
 ghost use Rattle.std.specs.Prelude.{◌≡◌, ◌<◌, Some, IsSome, IfSome, length};
 ghost use Rattle.lock_core.specs.Views.{SpinHolds};
-ghost use Rattle.lock_core.specs.SiteHandles.{plan_of, view_of, task_in, SitsAt};
+ghost use Rattle.lock_core.specs.SiteHandles.{plan_of, view_of, task_in, SitsAt, MovesOn};
 ghost use Rattle.lock_core.specs.Tallies.{raised};
 ghost use Rattle.lock_core.specs.Shown.{FindsSince};
 ghost use Rattle.word_bits.specs.OwnerWord.{task_code};
 ghost use Rattle.mutex_slow.specs.Mutexes.{HasChosen, OwesNoWake, list_at};
-ghost use Rattle.mutex_slow.specs.MutexPlaces.{seen_of, MovesOn, KeepsHand, StandsSame, IsOutside, OwesWake, IsToWake, KeepsWakes, Wakes};
+ghost use Rattle.mutex_slow.specs.MutexPlaces.{seen_of, KeepsHand, StandsSame, IsOutside, OwesWake, IsToWake, KeepsWakes, Wakes};
 
 use crate::rule::MutexRule;
 use cpu_task::Crew;

@@ -1,5 +1,5 @@
 -- The steps on the owner word keep its own facts and the site's, and so the host's rule.
-use Rattle.std.proofs.Common.{IsSome, ap, ⊎_elim, ◌*◌, Bool, true, ◌/◌, ◌%◌, ◌<◌, ◌≤◌, inr, ◌≡◌, ◌≢◌, ◌∙◌, ℕ, ◌+◌, inl, false, List, map, take, get_or, set, Option, Some, None, sym, refl, subst, arith}
+use Rattle.std.proofs.Common.{ap, ⊎_elim, ◌*◌, Bool, true, ◌/◌, ◌%◌, ◌<◌, ◌≤◌, inr, ◌≡◌, ◌≢◌, ◌∙◌, ℕ, ◌+◌, inl, false, List, map, take, get_or, set, Option, Some, None, sym, refl, subst, arith}
 use mathlib.Core.Option.{some, none}
 use lib.ListN.{get_elem?}
 use lib.Seq.{set-get_or}
@@ -16,7 +16,7 @@ use Rattle.lock_core.specs.declared.view.Stage.TheVariants.{Rest}
 use Rattle.lock_core.specs.Layout.{site}
 use Rattle.lock_core.specs.Views.{hand_of, held_of, handed, ticked, took}
 use Rattle.lock_core.specs.Sites.{HandGoes, SiteKept, HasPlan}
-use Rattle.lock_core.specs.MoveLaws.{hand-stays, saw-stays}
+use Rattle.lock_core.specs.Laws.Move.{hand-stays, saw-stays}
 use Rattle.lock_core.specs.Moves.{Goes, Lets, TriesWhere}
 use Rattle.lock_core.proofs.HandLaws.{no-alone, alone-is-held, not-both}
 use Rattle.lock_core.proofs.HoldSteps.{none-alone, quiet-state, site-takes, site-misses, site-frees}
@@ -29,12 +29,12 @@ use Rattle.lock_core.specs.Holding.{Learns, missed, released}
 use Rattle.mutex_word.specs.declared.host.Turn.{Turn}
 use Rattle.mutex_word.specs.declared.host.Turn.TheVariants.{Take, Ask, Free, Flag, Clear, Fail}
 use Rattle.mutex_word.specs.OwnerPlays.{Tried, Freed, Flagged, SeenBy, Looked, TookBy, AskedBy, Mine, LeftBy}
-use Rattle.mutex_word.specs.OwnKinds.{own-flags, own-clears, own-asks, own-takes-free, own-takes-picked, own-leaves, or-one, or-odd, and-clears}
+use Rattle.mutex_word.specs.Laws.OwnKinds.{own-flags, own-clears, own-asks, own-takes-free, own-takes-picked, own-leaves, or-one, or-odd, and-clears}
 use Rattle.word_bits.specs.OwnerWord.{task_code}
 use lib.Bits.{bit_and, bit_or}
 use mathlib.Core.Logic.{dite}
 use native.Mathlib.Decide.{ℕ_discrete}
-use Rattle.mutex_word.specs.OwnLaws.{Named, none-holds, no-holders, held-word, own-takes, own-frees, own-stays}
+use Rattle.mutex_word.specs.Laws.Own.{Named, none-holds, no-holders, held-word, own-takes, own-frees, own-stays}
 
 -- a release leaves another way to hold
 hand-frees : (h : Hand) (word : ℕ) → h.held ≡ Alone → HandGoes h (released h word)
@@ -64,10 +64,6 @@ fail-or-on asks task n {P} fails on = shut-or-open task n (λ shut. go asks shut
       | yes l ↦ fails (shut, λ _. l)
       | no few ↦ on (λ f. few (f.1 refl))
     ]
-
-pub some-number : (task : Option ℕ) → IsSome task → (t : ℕ) × (task ≡ Some t)
-some-number (Some t) is = (t, refl)
-some-number None is = absurd (not-both false refl is)
 
 -- what a step tells of the word that a try saw
 pub saw-word : {E : Type 0} (turned : Turn → View E → E) (asks counts : Bool) (me me' : Me (Unit {0}) (View E)) (n : ℕ) → SeenBy turned asks counts me n me' → SawWord turned asks counts me.0 n me'.0 × (me'.1 ≡ me.1)

@@ -3,9 +3,6 @@ pub mod OwnerWordSteps
 pub mod Holders
 pub mod OwnerTries
 pub mod OwnerPlays
-pub mod OwnLaws
-pub mod OwnKinds
 pub mod OwnerRuled
-pub mod OwnerRuledLaws
 pub mod OwnerHandles
-pub mod OwnerSiteLaws
+pub mod Laws

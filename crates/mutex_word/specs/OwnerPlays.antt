@@ -46,7 +46,8 @@ module _ {E : Type 0} (turned : Turn → View E → E) where
   -- a try's exchange that takes
   abbrev pub TookBy : {Call : Type 0} → Obj Call → (asks counts : Bool) → Step (Unit {0}) → Sat E → ℕ → Sat E → Type 0
   TookBy o asks counts st m n m' =
-      (n ≡ st.first → (known : List ℕ) × (log : List Entry) × ((k : Plan) → m.0.hand.plan ≡ Some k → Learns o k m.0.hand known log) × Turns m (turns turned Take m.0 (took m.0.hand Alone known log)) m')
+      (n ≡ st.first → (known : List ℕ) × (log : List Entry) × ((k : Plan) → m.0.hand.plan ≡ Some k → Learns o k m.0.hand known log)
+      × Turns m (turns turned Take m.0 (took m.0.hand Alone known log)) m')
       × (n ≢ st.first → SeenBy asks counts m n m')
 
   -- a try's exchange that asks

@@ -2,7 +2,7 @@
 ghost use Rattle.std.specs.Prelude.{◌<◌, false};
 ghost use Rattle.word_bits.specs.LockWords.{owned};
 ghost use Rattle.mutex_word.specs.OwnerRuled.{OwnerKept, OwnerMoves, IsPlain, leaves_plain, owner_at, unmarked, unturned};
-ghost use Rattle.mutex_word.specs.OwnerRuledLaws.{own-inside, own-there, owner-site, owner-own, owner-sites, owner-opens, owner-splits, owner-joins, owner-owns, owner-looks};
+ghost use Rattle.mutex_word.specs.Laws.OwnerRuled.{own-inside, own-there, owner-site, owner-own, owner-sites, owner-opens, owner-splits, owner-joins, owner-owns, owner-looks};
 
 use crate::host::OwnerHost;
 use lock_core::{SPIN_ROOM, SiteRule};

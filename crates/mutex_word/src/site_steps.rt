@@ -6,7 +6,7 @@ ghost use Rattle.lock_core.specs.Views.{ticked};
 ghost use Rattle.lock_core.specs.Pasts.{FoundAt};
 ghost use Rattle.mutex_word.specs.Holders.{own_word, turns, TakesOwner, MissesOwner, ReleasesOwner, HasFlags};
 ghost use Rattle.mutex_word.specs.OwnerPlays.{Tried, Freed, Flagged};
-ghost use Rattle.lock_core.specs.SiteHandles.{IsLatest, plan_of, view_of, hand_in, past_of, task_in, held_in, SitsAt, KeepsPast, SaysSame};
+ghost use Rattle.lock_core.specs.SiteHandles.{plan_of, view_of, hand_in, past_of, task_in, held_in, SitsAt, StepsAt, SaysSame};
 
 use crate::host::OwnerHost;
 use atomic_table::Play;
@@ -53,9 +53,7 @@ pub fn take_free<H: OwnerHost>(site: &Site<H>, pass: &mut Pass<H>) -> Result<(),
     requires out { held_in pass.old ≡ No }
     requires may { H.may_own TakeTurn (view_of pass.old) 0 (own_word (task_in pass.old)) }
     requires misses { H.may_miss (view_of pass.old) }
-    ensures own { SitsAt site.now pass.new }
-    ensures goes_on { KeepsPast pass.old pass.new }
-    ensures last { IsLatest pass.new }
+    ensures on { StepsAt site.now pass.old pass.new }
     ensures took { IfOk result (λ _.
         TakesOwner H.turned H.O.object (plan_of site.now) (view_of pass.old) (view_of pass.new)) }
     ensures missed { IfErr result (λ w. MissesOwner (view_of pass.old) w (view_of pass.new)) }
@@ -80,9 +78,7 @@ pub fn release_plain<H: OwnerHost>(site: &Site<H>, pass: &mut Pass<H>) -> Result
     requires held { held_in pass.old ≡ Alone }
     requires quiet { (hand_in pass.old).writes ≡ false }
     requires may { H.may_own FreeTurn (view_of pass.old) (own_word (task_in pass.old)) 0 }
-    ensures own { SitsAt site.now pass.new }
-    ensures goes_on { KeepsPast pass.old pass.new }
-    ensures last { IsLatest pass.new }
+    ensures on { StepsAt site.now pass.old pass.new }
     ensures released { IfOk result (λ _.
         ReleasesOwner H.turned (view_of pass.old) 0 (view_of pass.new)) }
     ensures flagged { IfErr result (λ word. HasFlags (task_in pass.old) word × H.may_be word) }
@@ -113,9 +109,7 @@ impl<H: OwnerHost> Play<(), View<H::Ext>> for Mark<H> {
 pub fn set_waiters<H: OwnerHost>(site: &Site<H>, pass: &mut Pass<H>)
     requires own { SitsAt site.now pass.old }
     requires may { (n : ℕ) → H.may_own Flag (view_of pass.old) n (bit_or n 1) }
-    ensures own { SitsAt site.now pass.new }
-    ensures goes_on { KeepsPast pass.old pass.new }
-    ensures last { IsLatest pass.new }
+    ensures on { StepsAt site.now pass.old pass.new }
     ensures face { SaysSame pass.old pass.new }
     ensures kept { view_of pass.new ≡ turns H.turned Flag (view_of pass.old) (hand_in pass.old) }
 {
@@ -134,9 +128,7 @@ impl<H: OwnerHost> Play<(), View<H::Ext>> for Wipe<H> {
 pub fn clear_flags<H: OwnerHost>(site: &Site<H>, pass: &mut Pass<H>)
     requires own { SitsAt site.now pass.old }
     requires may { (n m : ℕ) → m + n % 8 ≡ n → H.may_own Clear (view_of pass.old) n m }
-    ensures own { SitsAt site.now pass.new }
-    ensures goes_on { KeepsPast pass.old pass.new }
-    ensures last { IsLatest pass.new }
+    ensures on { StepsAt site.now pass.old pass.new }
     ensures face { SaysSame pass.old pass.new }
     ensures kept { view_of pass.new ≡ turns H.turned Clear (view_of pass.old) (hand_in pass.old) }
 {

@@ -3,7 +3,7 @@ ghost use Rattle.std.specs.Prelude.{◌≡◌, ◌≢◌, ℕ, ◌<◌, Bool, fa
 ghost use Rattle.lock_core.specs.declared.view.Held.TheVariants.{No, Alone};
 ghost use Rattle.lock_core.specs.Views.{ticked};
 ghost use Rattle.lock_core.specs.Pasts.{FoundAt};
-ghost use Rattle.lock_core.specs.SiteHandles.{IsLatest, plan_of, view_of, hand_in, past_of, task_in, held_in, SitsAt, KeepsPast, SaysSame};
+ghost use Rattle.lock_core.specs.SiteHandles.{IsLatest, plan_of, view_of, hand_in, past_of, task_in, held_in, SitsAt, StepsAt, SaysSame};
 ghost use Rattle.mutex_word.specs.declared.host.Turn.{Turn};
 ghost use Rattle.mutex_word.specs.declared.host.Turn.TheVariants.{Take as TakeTurn, Ask as AskTurn, Free};
 ghost use Rattle.mutex_word.specs.declared.tries.Tried.TheVariants.{Took, Failed};
@@ -102,9 +102,7 @@ impl<H: OwnerHost, L: EndKind> Play<(), View<H::Ext>> for Ends<H, L> {
 fn look<H: OwnerHost, A: TryKind>(site: &Site<H>, pass: &mut Pass<H>) -> u64
     requires own { SitsAt site.now pass.old }
     requires fails { MayFail H.may_own H.may_miss A.asks A.counts (view_of pass.old) }
-    ensures own { SitsAt site.now pass.new }
-    ensures goes_on { KeepsPast pass.old pass.new }
-    ensures last { IsLatest pass.new }
+    ensures on { StepsAt site.now pass.old pass.new }
     ensures face { SaysSame pass.old pass.new }
     ensures saw { SawWord H.turned A.asks A.counts (view_of pass.old) result (view_of pass.new) }
     ensures found { FoundAt H.OWNER result (past_of pass.new) }
@@ -120,9 +118,7 @@ fn take<H: OwnerHost, A: TryKind>(site: &Site<H>, pass: &mut Pass<H>, word: u64,
     requires takes { (t : ℕ) → task_in pass.old ≡ Some t → IsTake t word new }
     requires may { H.may_own TakeTurn (view_of pass.old) word new }
     requires fails { MayFail H.may_own H.may_miss A.asks A.counts (view_of pass.old) }
-    ensures own { SitsAt site.now pass.new }
-    ensures goes_on { KeepsPast pass.old pass.new }
-    ensures last { IsLatest pass.new }
+    ensures on { StepsAt site.now pass.old pass.new }
     ensures numbered { task_in pass.new ≡ task_in pass.old }
     ensures took { result ≡ word →
         TakesOwner H.turned H.O.object (plan_of site.now) (view_of pass.old) (view_of pass.new) }
@@ -144,9 +140,7 @@ fn ask<H: OwnerHost, A: TryKind>(site: &Site<H>, pass: &mut Pass<H>, word: u64, 
     requires asks { IsAsk word new }
     requires may { H.may_own AskTurn (view_of pass.old) word new }
     requires fails { MayFail H.may_own H.may_miss A.asks A.counts (view_of pass.old) }
-    ensures own { SitsAt site.now pass.new }
-    ensures goes_on { KeepsPast pass.old pass.new }
-    ensures last { IsLatest pass.new }
+    ensures on { StepsAt site.now pass.old pass.new }
     ensures face { SaysSame pass.old pass.new }
     ensures asked { result ≡ word →
         view_of pass.new ≡ turns H.turned AskTurn (view_of pass.old) (hand_in pass.old) }
@@ -172,14 +166,12 @@ fn act<H: OwnerHost, A: TryKind>(
     requires last { IsLatest pass.old }
     requires may { (IsFail A.asks (task_in pass.old) word → ⊥) →
         MayTry H.may_own H.may_miss A.asks A.counts (view_of pass.old) }
-    ensures own { SitsAt site.now pass.new }
-    ensures goes_on { KeepsPast pass.old pass.new }
-    ensures last { IsLatest pass.new }
+    ensures on { StepsAt site.now pass.old pass.new }
     ensures numbered { task_in pass.new ≡ task_in pass.old }
     ensures ended { IfOk result (λ t. Acted H.turned H.O.object (plan_of site.now) A.asks
         (view_of pass.old) (view_of pass.new) word t) }
     ensures face { IfErr result (λ _. SaysSame pass.old pass.new) }
-    ensures on { IfErr result (λ _. IsFail A.asks (task_in pass.old) word → ⊥) }
+    ensures fits { IfErr result (λ _. IsFail A.asks (task_in pass.old) word → ⊥) }
     ensures saw { IfErr result (λ n.
         SawWord H.turned A.asks A.counts (view_of pass.old) n (view_of pass.new)) }
     ensures found { IfErr result (λ n. FoundAt H.OWNER n (past_of pass.new)) }
@@ -222,9 +214,7 @@ pub fn attempt<H: OwnerHost, A: TryKind, W: Wait>(
     requires asks { asks ≡ A.asks }
     requires may { MayTry H.may_own H.may_miss A.asks A.counts (view_of pass.old) }
     requires counted { A.counts ≡ false → H.uncounted (view_of pass.old) }
-    ensures own { SitsAt site.now pass.new }
-    ensures goes_on { KeepsPast pass.old pass.new }
-    ensures last { IsLatest pass.new }
+    ensures on { StepsAt site.now pass.old pass.new }
     ensures numbered { task_in pass.new ≡ Some me }
     ensures came { CameTo H.turned H.O.object (plan_of site.now) A.asks A.counts
         (view_of pass.old) (view_of pass.new) result }
@@ -248,9 +238,7 @@ fn load_own<H: OwnerHost>(site: &Site<H>, pass: &mut Pass<H>) -> u64
     requires own { SitsAt site.now pass.old }
     requires numbered { IsSome (task_in pass.old) }
     requires held { held_in pass.old ≡ Alone }
-    ensures own { SitsAt site.now pass.new }
-    ensures goes_on { KeepsPast pass.old pass.new }
-    ensures last { IsLatest pass.new }
+    ensures on { StepsAt site.now pass.old pass.new }
     ensures face { SaysSame pass.old pass.new }
     ensures mine { IsMine (task_in pass.old) result }
     ensures kept { view_of pass.new ≡ ticked (view_of pass.old) }
@@ -267,9 +255,7 @@ fn leave<H: OwnerHost, L: EndKind>(site: &Site<H>, pass: &mut Pass<H>, word: u64
     requires quiet { (hand_in pass.old).writes ≡ false }
     requires left { IsLeft new }
     requires may { H.may_own L.turn (view_of pass.old) word new }
-    ensures own { SitsAt site.now pass.new }
-    ensures goes_on { KeepsPast pass.old pass.new }
-    ensures last { IsLatest pass.new }
+    ensures on { StepsAt site.now pass.old pass.new }
     ensures numbered { task_in pass.new ≡ task_in pass.old }
     ensures left { result ≡ word →
         Left H.turned L.turn (view_of pass.old) new (view_of pass.new) }
@@ -299,9 +285,7 @@ pub fn release<H: OwnerHost, W: Wait>(
     requires held { held_in pass.old ≡ Alone }
     requires quiet { (hand_in pass.old).writes ≡ false }
     requires may { MayRelease H.may_own (view_of pass.old) }
-    ensures own { SitsAt site.now pass.new }
-    ensures goes_on { KeepsPast pass.old pass.new }
-    ensures last { IsLatest pass.new }
+    ensures on { StepsAt site.now pass.old pass.new }
     ensures numbered { task_in pass.new ≡ task_in pass.old }
     ensures left { IfOk result (λ m. ReleasedTo H.turned (view_of pass.old) m (view_of pass.new)) }
     ensures flags { IfOk result (λ m.
@@ -340,9 +324,7 @@ pub fn hand_over<H: OwnerHost, W: Wait>(
     requires quiet { (hand_in pass.old).writes ≡ false }
     requires first { IfSome first (λ t. t < MAX_TASKS) }
     requires may { MayHandOver H.may_own first (view_of pass.old) }
-    ensures own { SitsAt site.now pass.new }
-    ensures goes_on { KeepsPast pass.old pass.new }
-    ensures last { IsLatest pass.new }
+    ensures on { StepsAt site.now pass.old pass.new }
     ensures numbered { task_in pass.new ≡ task_in pass.old }
     ensures left { HandsOver H.turned first (view_of pass.old) (view_of pass.new) }
     ensures found { LeavesHanded H.OWNER (task_in pass.old) first

@@ -10,7 +10,7 @@ use Rattle.osq_nodes.specs.declared.node.Node.{Node}
 use Rattle.osq_nodes.specs.OsqPlaces.{node_marks}
 use Rattle.osq_nodes.specs.Words.{tail_in, prev_in, locked_in}
 use Rattle.osq_nodes.specs.OsqStated.{row_at, places_at, IsQueueAt, Changes, HasBecome}
-use Rattle.osq_nodes.specs.Walks.{queue-same}
+use Rattle.osq_nodes.specs.Laws.Walks.{queue-same}
 use Rattle.osq_nodes.specs.OsqRuled.{OsqKept, OsqMoves, newest, no_calls}
 
 -- what the passes keep of an instant

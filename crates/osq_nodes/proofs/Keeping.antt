@@ -8,7 +8,7 @@ use Rattle.lock_core.specs.NodeLists.{Has, IsFirst, Precedes, last_from, without
 use Rattle.osq_nodes.specs.OsqPlaces.{Owes}
 use Rattle.osq_nodes.specs.OsqKept.{IsBehind, IsHead, IsCode, Owed, IsAt, Sets, QueueKept, with_at}
 use Rattle.osq_nodes.proofs.Updating.{with_at-sets}
-use Rattle.lock_core.specs.NodeListLaws.{left-has, right-has, same-successor, has-kept, kept-has, once-kept, first-kept, precedes-kept, kept-precedes}
+use Rattle.lock_core.specs.Laws.NodeList.{left-has, right-has, same-successor, has-kept, kept-has, once-kept, first-kept, precedes-kept, kept-precedes}
 
 -- a fact of each task, where one goes to another place
 pub carry : (place place' : ℕ → Place) (t : ℕ) (P P' : Place) → place t ≡ P → Sets place place' t P' → (F G : ℕ → Place → Type 0) → (F t P → G t P') → ((d : ℕ) → d ≢ t → (p : Place) → F d p → G d p)

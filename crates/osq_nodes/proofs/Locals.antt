@@ -8,7 +8,7 @@ use Rattle.lock_core.specs.declared.layout.TheConstants.{LOCK_WORDS}
 use Rattle.lock_core.specs.declared.op.Op.{Op}
 use Rattle.lock_core.specs.declared.op.Op.TheVariants.{Load, Store, Swap, Exchange}
 use Rattle.lock_core.specs.NodeLists.{Has, IsFirst, without}
-use Rattle.lock_core.specs.NodeListLaws.{left-has, right-has, first-has, last-has}
+use Rattle.lock_core.specs.Laws.NodeList.{left-has, right-has, first-has, last-has}
 use Rattle.osq_nodes.specs.declared.node.Place.{Place}
 use Rattle.osq_nodes.specs.declared.node.Place.TheVariants.{Out, Cleared, Swapped, Linking, Waiting, Unlinked, Splicing, Relinking, Head, Granting}
 use Rattle.osq_nodes.specs.Words.{code_in, tail_at, tail_in, next_in, prev_in, locked_in, next_at, prev_at, locked_at}

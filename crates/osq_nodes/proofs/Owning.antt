@@ -22,13 +22,13 @@ use Rattle.lock_core.specs.Nothings.{never, nothing}
 use Rattle.lock_core.specs.Ops.{word_after, told_by}
 use Rattle.lock_core.specs.SitePlays.{Turns}
 use Rattle.lock_core.specs.Pasts.{FoundAt, FoundAtStep, GoesOn, IsOwnStep}
-use Rattle.lock_core.specs.SiteRunLaws.{found-at-step}
+use Rattle.lock_core.specs.Laws.SiteRun.{found-at-step}
 use Rattle.osq_nodes.specs.OsqHandles.{FoundBy, FoundNext, FoundThere, past_of}
 use Rattle.lock_core.specs.Layout.{SiteWords, site, lay}
 use Rattle.lock_core.specs.Views.{hand_of, named_of}
 use Rattle.lock_core.specs.Sites.{SiteKept}
 use Rattle.lock_core.specs.Moves.{Goes, Lets, SiteMove, Moved}
-use Rattle.lock_core.specs.MoveLaws.{hand-stays, leaves-site, spin-idle, set-moves, saw-stays}
+use Rattle.lock_core.specs.Laws.Move.{hand-stays, leaves-site, spin-idle, set-moves, saw-stays}
 use Rattle.lock_core.specs.Totals.{total, total-at, total-two}
 use Rattle.lock_core.specs.ViewParts.{each-set, keep_part, set-there}
 use Rattle.lock_core.proofs.HandLaws.{not-both}
@@ -42,7 +42,7 @@ use Rattle.osq_nodes.specs.OsqKept.{RowKept, with_at}
 use Rattle.osq_nodes.specs.Words.{next_at, row_of, tail_in}
 use Rattle.osq_nodes.specs.OsqStated.{Changes}
 use Rattle.osq_nodes.specs.OsqRuled.{V, Seated, OsqKept, OsqMoves, NodeStep, FindsTail, Local, stepped}
-use Rattle.osq_nodes.specs.OsqRuledLaws.{goes, number-one}
+use Rattle.osq_nodes.specs.Laws.OsqRuled.{goes, number-one}
 use Rattle.osq_nodes.specs.OsqPasses.{OnQueue}
 use Rattle.osq_nodes.proofs.Updating.{with_at-sets}
 use Rattle.osq_nodes.proofs.Locals.{relocate}

@@ -3,9 +3,8 @@ pub mod OsqPlaces
 pub mod OsqStated
 pub mod QueueLaws
 pub mod OsqKept
-pub mod Walks
 pub mod OsqRuled
-pub mod OsqRuledLaws
 pub mod OsqSteps
 pub mod OsqPasses
 pub mod OsqHandles
+pub mod Laws

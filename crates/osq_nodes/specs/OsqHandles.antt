@@ -66,6 +66,13 @@ KeepsPast old new = inner.KeepsPast old.pass new.pass
 abbrev pub IsLatest : OsqPass → Type 0
 IsLatest pass = inner.IsLatest pass.pass
 
+-- it made steps at the queue: it is one of the queue's, with the number that it had, and its past goes on, up to its own last step
+pub record StepsAt (osq : Osq) (old new : OsqPass) : Type 0 where
+  pub own : SitsAt osq new
+  pub number : KeepsNumber old new
+  pub goes_on : KeepsPast old new
+  pub last : IsLatest new
+
 -- a step of the pass that has the task's number, after its first so many, found this number at the place
 abbrev pub FoundBy : Option ℕ → (begun : ℕ) → ℕ → ℕ → List Moment → List Moment → Type 0
 FoundBy task begun place n old new = (step : ℕ) × (begun < step) × FoundAtStep task step place n old new
@@ -92,7 +99,8 @@ abbrev pub FoundNext : Bool → ℕ → OsqPass → Type 0
 FoundNext true task pass = (next : ℕ) × FoundAt (next_at task) (suc next) (past_of pass)
 FoundNext false task pass = FoundAt (next_at task) 0 (past_of pass)
 
--- The last moment of its past, which is that of its own last step, says of the pass what the pass does: at the seat of that step stand its hand, its place, its swaps and what the last one found; and its task is at that place.
+-- The last moment of its past, which is that of its own last step, says of the pass what the pass does: at the seat of that step stand its hand, its place, its swaps and what the last one found; and
+-- its task is at that place.
 pub record StatesOwn (pass : OsqPass) : Type 0 where
   pub own : IsLatest pass
   pub node : Marks

@@ -23,7 +23,8 @@ pub record IsQueue (tail : ℕ) (prev locked : ℕ → ℕ) (place : ℕ → Pla
   pub walk : IsWalk prev locked place tail (reverse queue)
   pub once : IsOnce queue
 
--- A link that is there is that of neighbours, and nobody owes it. One that is 0 is owed by exactly one task. Whoever owes one, as each task does that has exchanged the tail and not linked yet, owes one that is 0, of neighbours.
+-- A link that is there is that of neighbours, and nobody owes it. One that is 0 is owed by exactly one task. Whoever owes one, as each task does that has exchanged the tail and not linked yet, owes
+-- one that is 0, of neighbours.
 pub record AreLinked (next : ℕ → ℕ) (place : ℕ → Place) (queue : List ℕ) : Type 0 where
   pub there : (x y : ℕ) → next x ≡ suc y → Precedes queue x y × ((d : ℕ) → Owes d (place d) x y → ⊥)
   pub owed : (x y : ℕ) → Precedes queue x y → next x ≡ 0 → (d : ℕ) × Owes d (place d) x y × ((e : ℕ) → Owes e (place e) x y → e ≡ d)
@@ -68,7 +69,8 @@ pub record IsSpinQueue (tasks : ℕ) (m : Moment) : Type 0 where
   -- no two passes have one task's number
   pub named : (t : ℕ) → total (named_of t) m.hands ≤ 1
 
--- The three steps by which a task leaves: the exchange of the tail from its code to that of its predecessor, or to 0; its store of the predecessor's code in the `prev` of its successor; the head's store of 1 in the `locked` of its successor.
+-- The three steps by which a task leaves: the exchange of the tail from its code to that of its predecessor, or to 0; its store of the predecessor's code in the `prev` of its successor; the head's
+-- store of 1 in the `locked` of its successor.
 
 abbrev pub LeavesByTail : List ℕ → List ℕ → (ℕ → Place) → ℕ → Type 0
 LeavesByTail row row' place t = (prev : Option ℕ) × (place t ≡ waits_at prev) × (tail_in row ≡ suc t) × (row' ≡ slice_set row tail_at (code_in prev))

@@ -8,7 +8,8 @@ use Rattle.osq_nodes.specs.OsqStated.{IsSpinQueue, places_at, row_at}
 
 -- a link between neighbours that is 0 is owed by exactly one task
 abbrev pub MissingLinksAreOwedOnce : Type 0
-MissingLinksAreOwedOnce = (tasks : ℕ) (m : Moment) (r : IsSpinQueue tasks m) (x y : ℕ) → Precedes r.queue x y → next_in (row_at m) x ≡ 0 → (d : ℕ) × Owes d (places_at m d) x y × ((e : ℕ) → Owes e (places_at m e) x y → e ≡ d)
+MissingLinksAreOwedOnce = (tasks : ℕ) (m : Moment) (r : IsSpinQueue tasks m) (x y : ℕ) → Precedes r.queue x y → next_in (row_at m) x ≡ 0 → (d : ℕ) × Owes d (places_at m d) x y
+    × ((e : ℕ) → Owes e (places_at m e) x y → e ≡ d)
 
 -- a queue that isn't empty has a head: its first, which found no tail or was told
 abbrev pub QueueHasHead : Type 0

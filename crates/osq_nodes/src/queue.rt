@@ -25,7 +25,7 @@ pub struct Osq {
 }
 
 impl Osq {
-    ghost use Rattle.osq_nodes.specs.OsqHandles.{tasks_of, view_of, task_in, place_in, fronts_in, swaps_in, found_in, steps_in, past_of, SawOther, SawTail, SitsAt, KeepsNode, KeepsNumber, KeepsPast, IsLatest, StatesOwn};
+    ghost use Rattle.osq_nodes.specs.OsqHandles.{tasks_of, view_of, task_in, place_in, fronts_in, swaps_in, found_in, steps_in, past_of, SawOther, SawTail, SitsAt, StepsAt, KeepsNode, KeepsNumber, KeepsPast, IsLatest, StatesOwn};
 
     /// An empty queue for so many tasks. The pass has no task number.
     pub fn open(alloc: Global, tasks: u32) -> Result<(Osq, OsqPass), AllocError>
@@ -118,10 +118,7 @@ impl Osq {
         requires own { SitsAt self.now pass.old }
         requires mine { task_in pass.old ≡ Some task }
         requires out { place_in pass.old ≡ Out }
-        ensures own { SitsAt self.now pass.new }
-        ensures number { KeepsNumber pass.old pass.new }
-        ensures goes_on { KeepsPast pass.old pass.new }
-        ensures last { IsLatest pass.new }
+        ensures on { StepsAt self.now pass.old pass.new }
         ensures swapped { swaps_in pass.new ≡ swaps_in pass.old + 1 }
         ensures found { SawTail pass.old pass.new }
         ensures first { MatchOption result (found_in pass.new ≡ 0)
@@ -159,10 +156,7 @@ impl Osq {
         requires own { SitsAt self.now pass.old }
         requires mine { task_in pass.old ≡ Some task }
         requires here { place_in pass.old ≡ waits_at prev }
-        ensures own { SitsAt self.now pass.new }
-        ensures number { KeepsNumber pass.old pass.new }
-        ensures goes_on { KeepsPast pass.old pass.new }
-        ensures last { IsLatest pass.new }
+        ensures on { StepsAt self.now pass.old pass.new }
         ensures swaps { swaps_in pass.new ≡ swaps_in pass.old }
         ensures found { found_in pass.new ≡ found_in pass.old }
         ensures fronts { fronts_in pass.new ≡ fronts_in pass.old }
@@ -190,10 +184,7 @@ impl Osq {
         requires own { SitsAt self.now pass.old }
         requires numbered { IsSome (task_in pass.old) }
         requires out { place_in pass.old ≡ Out }
-        ensures own { SitsAt self.now pass.new }
-        ensures number { KeepsNumber pass.old pass.new }
-        ensures goes_on { KeepsPast pass.old pass.new }
-        ensures last { IsLatest pass.new }
+        ensures on { StepsAt self.now pass.old pass.new }
         ensures head { place_in pass.new ≡ Head }
         ensures fronts { fronts_in pass.new ≡ fronts_in pass.old + 1 }
         ensures swapped { swaps_in pass.new ≡ swaps_in pass.old + 1 }
@@ -222,10 +213,7 @@ impl Osq {
         requires own { SitsAt self.now pass.old }
         requires numbered { IsSome (task_in pass.old) }
         requires head { place_in pass.old ≡ Head }
-        ensures own { SitsAt self.now pass.new }
-        ensures number { KeepsNumber pass.old pass.new }
-        ensures goes_on { KeepsPast pass.old pass.new }
-        ensures last { IsLatest pass.new }
+        ensures on { StepsAt self.now pass.old pass.new }
         ensures out { place_in pass.new ≡ Out }
         ensures fronts { fronts_in pass.new ≡ fronts_in pass.old }
         ensures swaps { swaps_in pass.new ≡ swaps_in pass.old }
@@ -255,12 +243,9 @@ impl Osq {
     /// counted.
     pub fn recall_queue(&self, pass: &mut OsqPass)
         requires own { SitsAt self.now pass.old }
-        ensures own { SitsAt self.now pass.new }
-        ensures number { KeepsNumber pass.old pass.new }
-        ensures goes_on { KeepsPast pass.old pass.new }
+        ensures on { StepsAt self.now pass.old pass.new }
         ensures node { KeepsNode pass.old pass.new }
         ensures step { steps_in pass.new ≡ steps_in pass.old + 1 }
-        ensures last { IsLatest pass.new }
         ensures begins { BeganWith (newest (tasks_of self.now)) (past_of pass.new) }
         ensures always { EachMoment (IsSpinQueue (tasks_of self.now)) (past_of pass.new) }
         ensures queues { (queue : List ℕ) × HasBecome (past_of pass.new) queue }

@@ -4,7 +4,7 @@ ghost use Rattle.osq_nodes.specs.declared.node.Place.TheVariants.{Out};
 ghost use Rattle.lock_core.specs.Nothings.{never};
 ghost use Rattle.osq_nodes.specs.OsqPlaces.{node_marks};
 ghost use Rattle.osq_nodes.specs.OsqRuled.{OsqKept, OsqMoves, idle};
-ghost use Rattle.osq_nodes.specs.OsqRuledLaws.{osq-site, osq-sites, osq-opens, osq-splits, osq-joins};
+ghost use Rattle.osq_nodes.specs.Laws.OsqRuled.{osq-site, osq-sites, osq-opens, osq-splits, osq-joins};
 
 use crate::node::Node;
 use lock_core::{Nothing, SiteRule};

@@ -3,7 +3,7 @@ ghost use Rattle.std.specs.Prelude.{◌≡◌, ◌≢◌, ◌-◌, ◌<◌, ◌�
 ghost use Rattle.lock_core.specs.Pasts.{FoundAt};
 ghost use Rattle.lock_core.specs.Views.{ticked};
 ghost use Rattle.osq_nodes.specs.declared.node.Place.TheVariants.{Out, Cleared, Swapped, Linking, Waiting, Granting};
-ghost use Rattle.osq_nodes.specs.OsqHandles.{tasks_of, view_of, task_in, place_in, past_of, FoundNext, FoundOwn, FoundThere, SitsAt, KeepsNumber, KeepsPast, IsLatest};
+ghost use Rattle.osq_nodes.specs.OsqHandles.{tasks_of, view_of, task_in, place_in, past_of, FoundNext, FoundOwn, FoundThere, SitsAt, StepsAt};
 ghost use Rattle.osq_nodes.specs.OsqPlaces.{waits_at, takes_at};
 ghost use Rattle.osq_nodes.specs.OsqSteps.{placed, fronted, swapped, IsCodeOrNone};
 ghost use Rattle.osq_nodes.specs.Words.{code_in, next_at, tail_at, locked_at};
@@ -20,10 +20,7 @@ pub fn clear_locked(osq: &Osq, pass: &mut OsqPass, task: u32)
     requires own { SitsAt osq.now pass.old }
     requires mine { task_in pass.old ≡ Some task }
     requires here { place_in pass.old ≡ Out }
-    ensures own { SitsAt osq.now pass.new }
-    ensures number { KeepsNumber pass.old pass.new }
-    ensures goes_on { KeepsPast pass.old pass.new }
-    ensures last { IsLatest pass.new }
+    ensures on { StepsAt osq.now pass.old pass.new }
     ensures kept { view_of pass.new ≡ placed (view_of pass.old) Cleared }
 {
     // Before the tail swap: behind it a predecessor may grant at any time, and that 1 must stay.
@@ -35,10 +32,7 @@ pub fn clear_next(osq: &Osq, pass: &mut OsqPass, task: u32)
     requires own { SitsAt osq.now pass.old }
     requires mine { task_in pass.old ≡ Some task }
     requires here { place_in pass.old ≡ Cleared }
-    ensures own { SitsAt osq.now pass.new }
-    ensures number { KeepsNumber pass.old pass.new }
-    ensures goes_on { KeepsPast pass.old pass.new }
-    ensures last { IsLatest pass.new }
+    ensures on { StepsAt osq.now pass.old pass.new }
     ensures kept { view_of pass.new ≡ placed (view_of pass.old) Cleared }
 {
     // Before the tail swap: behind it a successor may store its code there at any time.
@@ -51,10 +45,7 @@ pub fn swap_tail(osq: &Osq, pass: &mut OsqPass, task: u32) -> u64
     requires own { SitsAt osq.now pass.old }
     requires mine { task_in pass.old ≡ Some task }
     requires here { place_in pass.old ≡ Cleared }
-    ensures own { SitsAt osq.now pass.new }
-    ensures number { KeepsNumber pass.old pass.new }
-    ensures goes_on { KeepsPast pass.old pass.new }
-    ensures last { IsLatest pass.new }
+    ensures on { StepsAt osq.now pass.old pass.new }
     ensures kept { view_of pass.new ≡ swapped (view_of pass.old) result }
     ensures code { IsCodeOrNone (tasks_of osq.now) result }
     ensures found { FoundAt tail_at result (past_of pass.new) }
@@ -69,10 +60,7 @@ pub fn store_prev(osq: &Osq, pass: &mut OsqPass, task: u32, prev: u32)
     requires own { SitsAt osq.now pass.old }
     requires mine { task_in pass.old ≡ Some task }
     requires here { place_in pass.old ≡ Swapped prev }
-    ensures own { SitsAt osq.now pass.new }
-    ensures number { KeepsNumber pass.old pass.new }
-    ensures goes_on { KeepsPast pass.old pass.new }
-    ensures last { IsLatest pass.new }
+    ensures on { StepsAt osq.now pass.old pass.new }
     ensures kept { view_of pass.new ≡ placed (view_of pass.old) (Linking prev) }
 {
     // Before the link: once the predecessor finds it, it may leave and store its own predecessor
@@ -86,10 +74,7 @@ pub fn link(osq: &Osq, pass: &mut OsqPass, task: u32, prev: u32)
     requires mine { task_in pass.old ≡ Some task }
     requires here { place_in pass.old ≡ Linking prev }
     requires there { prev < tasks_of osq.now }
-    ensures own { SitsAt osq.now pass.new }
-    ensures number { KeepsNumber pass.old pass.new }
-    ensures goes_on { KeepsPast pass.old pass.new }
-    ensures last { IsLatest pass.new }
+    ensures on { StepsAt osq.now pass.old pass.new }
     ensures kept { view_of pass.new ≡ placed (view_of pass.old) Waiting }
 {
     // The predecessor is still in the queue, as none leaves before it has this link.
@@ -101,10 +86,7 @@ pub fn is_granted(osq: &Osq, pass: &mut OsqPass, task: u32) -> bool
     requires own { SitsAt osq.now pass.old }
     requires mine { task_in pass.old ≡ Some task }
     requires here { place_in pass.old ≡ Waiting }
-    ensures own { SitsAt osq.now pass.new }
-    ensures number { KeepsNumber pass.old pass.new }
-    ensures goes_on { KeepsPast pass.old pass.new }
-    ensures last { IsLatest pass.new }
+    ensures on { StepsAt osq.now pass.old pass.new }
     ensures kept { MatchBool result (view_of pass.new ≡ fronted (view_of pass.old))
         (view_of pass.new ≡ ticked (view_of pass.old)) }
     ensures found { FoundThere result (locked_at task) 1 pass.new }
@@ -118,10 +100,7 @@ pub fn leave_tail(osq: &Osq, pass: &mut OsqPass, task: u32, prev: Option<u32>) -
     requires own { SitsAt osq.now pass.old }
     requires mine { task_in pass.old ≡ Some task }
     requires here { place_in pass.old ≡ waits_at prev }
-    ensures own { SitsAt osq.now pass.new }
-    ensures number { KeepsNumber pass.old pass.new }
-    ensures goes_on { KeepsPast pass.old pass.new }
-    ensures last { IsLatest pass.new }
+    ensures on { StepsAt osq.now pass.old pass.new }
     ensures kept { MatchBool result (view_of pass.new ≡ placed (view_of pass.old) Out)
         (view_of pass.new ≡ ticked (view_of pass.old)) }
     ensures found { FoundOwn result task pass.new }
@@ -137,10 +116,7 @@ pub fn has_next(osq: &Osq, pass: &mut OsqPass, task: u32, prev: Option<u32>) -> 
     requires own { SitsAt osq.now pass.old }
     requires mine { task_in pass.old ≡ Some task }
     requires here { place_in pass.old ≡ waits_at prev }
-    ensures own { SitsAt osq.now pass.new }
-    ensures number { KeepsNumber pass.old pass.new }
-    ensures goes_on { KeepsPast pass.old pass.new }
-    ensures last { IsLatest pass.new }
+    ensures on { StepsAt osq.now pass.old pass.new }
     ensures kept { view_of pass.new ≡ ticked (view_of pass.old) }
     ensures found { FoundNext result task pass.new }
 {
@@ -152,10 +128,7 @@ pub fn is_last(osq: &Osq, pass: &mut OsqPass, task: u32, prev: Option<u32>) -> b
     requires own { SitsAt osq.now pass.old }
     requires mine { task_in pass.old ≡ Some task }
     requires here { place_in pass.old ≡ waits_at prev }
-    ensures own { SitsAt osq.now pass.new }
-    ensures number { KeepsNumber pass.old pass.new }
-    ensures goes_on { KeepsPast pass.old pass.new }
-    ensures last { IsLatest pass.new }
+    ensures on { StepsAt osq.now pass.old pass.new }
     ensures kept { view_of pass.new ≡ ticked (view_of pass.old) }
     ensures found { FoundOwn result task pass.new }
 {
@@ -167,10 +140,7 @@ fn swap_next(osq: &Osq, pass: &mut OsqPass, task: u32, prev: Option<u32>) -> u64
     requires own { SitsAt osq.now pass.old }
     requires mine { task_in pass.old ≡ Some task }
     requires here { place_in pass.old ≡ waits_at prev }
-    ensures own { SitsAt osq.now pass.new }
-    ensures number { KeepsNumber pass.old pass.new }
-    ensures goes_on { KeepsPast pass.old pass.new }
-    ensures last { IsLatest pass.new }
+    ensures on { StepsAt osq.now pass.old pass.new }
     ensures code { result ≤ tasks_of osq.now }
     ensures none { result ≡ 0 → view_of pass.new ≡ ticked (view_of pass.old) }
     ensures some { result ≢ 0
@@ -187,10 +157,7 @@ pub fn take_next(osq: &Osq, pass: &mut OsqPass, task: u32, prev: Option<u32>) ->
     requires own { SitsAt osq.now pass.old }
     requires mine { task_in pass.old ≡ Some task }
     requires here { place_in pass.old ≡ waits_at prev }
-    ensures own { SitsAt osq.now pass.new }
-    ensures number { KeepsNumber pass.old pass.new }
-    ensures goes_on { KeepsPast pass.old pass.new }
-    ensures last { IsLatest pass.new }
+    ensures on { StepsAt osq.now pass.old pass.new }
     ensures kept { MatchOption result (view_of pass.new ≡ ticked (view_of pass.old)) (λ n.
         (n < tasks_of osq.now) × (view_of pass.new ≡ placed (view_of pass.old) (takes_at prev n))) }
     ensures found { FoundAt (next_at task) (code_in result) (past_of pass.new) }
@@ -209,10 +176,7 @@ pub fn grant(osq: &Osq, pass: &mut OsqPass, task: u32, next: u32)
     requires mine { task_in pass.old ≡ Some task }
     requires here { place_in pass.old ≡ Granting next }
     requires there { next < tasks_of osq.now }
-    ensures own { SitsAt osq.now pass.new }
-    ensures number { KeepsNumber pass.old pass.new }
-    ensures goes_on { KeepsPast pass.old pass.new }
-    ensures last { IsLatest pass.new }
+    ensures on { StepsAt osq.now pass.old pass.new }
     ensures kept { view_of pass.new ≡ placed (view_of pass.old) Out }
 {
     // The successor can't leave meanwhile: its code isn't in this task's `next` any more.

@@ -4,7 +4,7 @@ ghost use Rattle.lock_core.specs.Stores.{spin_room};
 ghost use Rattle.lock_core.specs.Pasts.{FindsAt};
 ghost use Rattle.lock_core.specs.SitePlays.{Turns};
 ghost use Rattle.osq_nodes.specs.declared.node.Place.{Place as At};
-ghost use Rattle.osq_nodes.specs.OsqHandles.{tasks_of, view_of, task_in, place_in, past_of, SitsAt, KeepsNumber, KeepsPast, IsLatest};
+ghost use Rattle.osq_nodes.specs.OsqHandles.{tasks_of, view_of, task_in, place_in, past_of, SitsAt, StepsAt};
 ghost use Rattle.osq_nodes.specs.OsqRuled.{stepped, Local};
 
 use crate::node::Node;
@@ -45,10 +45,7 @@ pub fn step<L: Leads>(osq: &Osq, pass: &mut OsqPass, word: usize, op: Op) -> u64
     requires inside { word < spin_room (tasks_of osq.now) }
     requires keeps { (t : ℕ) → task_in pass.old ≡ Some t → Local
         (tasks_of osq.now) t (place_in pass.old) word op (L.to (place_in pass.old)) L.tells }
-    ensures own { SitsAt osq.now pass.new }
-    ensures number { KeepsNumber pass.old pass.new }
-    ensures goes_on { KeepsPast pass.old pass.new }
-    ensures last { IsLatest pass.new }
+    ensures on { StepsAt osq.now pass.old pass.new }
     ensures kept { view_of pass.new ≡
         stepped (place_in pass.old) (view_of pass.old) (L.to (place_in pass.old) result) result }
     ensures told { L.tells result }

@@ -4,7 +4,7 @@ use Rattle.lock_core.specs.declared.view.Moment.{Moment}
 use Rattle.lock_core.specs.SiteHandles as inner
 use Rattle.lock_core.specs.NodeLists.{IsFirst}
 use Rattle.lock_core.specs.Pasts.{EachMoment}
-use Rattle.lock_core.specs.SiteRunLaws.{step-by}
+use Rattle.lock_core.specs.Laws.SiteRun.{step-by}
 use Rattle.osq_nodes.specs.declared.node.Place.TheVariants.{Out}
 use Rattle.osq_nodes.specs.declared.pass.OsqPass.{OsqPass}
 use Rattle.osq_nodes.specs.declared.queue.Osq.{Osq}

@@ -5,7 +5,7 @@ use native.Mathlib.Decide.{ℕ_discrete}
 use Rattle.word_bits.specs.declared.TheConstants.{MAX_TASKS}
 use Rattle.lock_core.specs.declared.op.Op.TheVariants.{Load, Store, Exchange}
 use Rattle.lock_core.specs.NodeLists.{Has, IsFirst, Precedes, without}
-use Rattle.lock_core.specs.NodeListLaws.{first-has, first-before, left-has, right-has, same-predecessor, same-successor, precedes-apart, last-stays, kept-has, kept-first, kept-precedes, bridge}
+use Rattle.lock_core.specs.Laws.NodeList.{first-has, first-before, left-has, right-has, same-predecessor, same-successor, precedes-apart, last-stays, kept-has, kept-first, kept-precedes, bridge}
 use Rattle.osq_nodes.specs.declared.node.Place.{Place}
 use Rattle.osq_nodes.specs.declared.node.Place.TheVariants.{Out, Cleared, Swapped, Linking, Waiting, Unlinked, Splicing, Relinking, Head, Granting}
 use Rattle.osq_nodes.specs.OsqPlaces.{Owes}

@@ -13,7 +13,8 @@ use Rattle.osq_nodes.specs.OsqStated.{places_at}
 abbrev pub HasOneHead : Moment → Type 0
 HasOneHead m = (t u : ℕ) → places_at m t ≡ Head → places_at m u ≡ Head → t ≡ u
 
--- The last of these moments of the queue is that of a step of the pass with this number. At the seat of that step it had entered the queue and been its head so often. The task of that number isn't in the queue.
+-- The last of these moments of the queue is that of a step of the pass with this number. At the seat of that step it had entered the queue and been its head so often. The task of that number isn't in
+-- the queue.
 pub record IsOutOfQueue (task : Option ℕ) (fronts swaps : ℕ) (past : List Moment) : Type 0 where
   pub step : ℕ
   pub own : IsStepBy task step past

@@ -9,7 +9,9 @@ use Rattle.osq_nodes.specs.OsqRuled.{IsOsqMove, newest}
 use Rattle.osq_nodes.specs.OsqStated.{HasBecome, IsSpinQueue}
 use Rattle.osq_unqueue.specs.Fronts.{HasOneHead, IsOutOfQueue}
 
--- What a pass knows that has looked back at the queue. At each of its moments so far, from the empty queue on, it knows who stood in it and in which order, and that one task at most was its head. It knows which tasks stand in it now. The queue has come to be by tasks' own appends and by removals that keep the others in order alone. It knows what each step counted. Its own task isn't in the queue, and has entered it and been its head as often as the pass says.
+-- What a pass knows that has looked back at the queue. At each of its moments so far, from the empty queue on, it knows who stood in it and in which order, and that one task at most was its head. It
+-- knows which tasks stand in it now. The queue has come to be by tasks' own appends and by removals that keep the others in order alone. It knows what each step counted. Its own task isn't in the
+-- queue, and has entered it and been its head as often as the pass says.
 pub record KnowsSpinQueue (k : Plan) (v : Shown) (spun : List Moment) : Type 0 where
   pub begins : BeganWith (newest (length k)) spun
   pub always : EachMoment (IsSpinQueue (length k)) spun

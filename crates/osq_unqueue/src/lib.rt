@@ -3,7 +3,7 @@
 
 ghost use Rattle.std.specs.Prelude.{◌≡◌, ◌≢◌, ◌<◌, ◌≤◌, ◌+◌, true, false, Some, None, IsSome, MatchBool, MatchOption};
 ghost use Rattle.osq_nodes.specs.declared.node.Place.TheVariants.{Out, Waiting, Unlinked, Head};
-ghost use Rattle.osq_nodes.specs.OsqHandles.{tasks_of, task_in, place_in, fronts_in, swaps_in, found_in, steps_in, SawTail, SitsAt, KeepsNumber, KeepsPast, IsLatest};
+ghost use Rattle.osq_nodes.specs.OsqHandles.{tasks_of, task_in, place_in, fronts_in, swaps_in, found_in, steps_in, SawTail, SitsAt, StepsAt};
 ghost use Rattle.cpu_task.specs.CpuCounting.{Rises};
 
 mod steps;
@@ -20,10 +20,7 @@ fn spin<C: Cpu, W: Wait>(osq: &Osq, rt: &W, pass: &mut OsqPass, cpu: &mut C, tas
     requires own { SitsAt osq.now pass.old }
     requires mine { task_in pass.old ≡ Some task }
     requires waits { place_in pass.old ≡ Waiting }
-    ensures own { SitsAt osq.now pass.new }
-    ensures number { KeepsNumber pass.old pass.new }
-    ensures goes_on { KeepsPast pass.old pass.new }
-    ensures last { IsLatest pass.new }
+    ensures on { StepsAt osq.now pass.old pass.new }
     ensures swaps { swaps_in pass.new ≡ swaps_in pass.old }
     ensures found { found_in pass.new ≡ found_in pass.old }
     ensures place { MatchBool result (place_in pass.new ≡ Head) (place_in pass.new ≡ Waiting) }
@@ -53,10 +50,7 @@ fn unlink<W: Wait>(osq: &Osq, rt: &W, pass: &mut OsqPass, task: u32, mut prev: u
     requires mine { task_in pass.old ≡ Some task }
     requires waits { place_in pass.old ≡ Waiting }
     requires there { prev < tasks_of osq.now }
-    ensures own { SitsAt osq.now pass.new }
-    ensures number { KeepsNumber pass.old pass.new }
-    ensures goes_on { KeepsPast pass.old pass.new }
-    ensures last { IsLatest pass.new }
+    ensures on { StepsAt osq.now pass.old pass.new }
     ensures swaps { swaps_in pass.new ≡ swaps_in pass.old }
     ensures found { found_in pass.new ≡ found_in pass.old }
     ensures place { MatchOption result (place_in pass.new ≡ Head)
@@ -90,10 +84,7 @@ pub fn lock<C: Cpu, W: Wait>(osq: &Osq, rt: &W, pass: &mut OsqPass, cpu: &mut C)
     requires own { SitsAt osq.now pass.old }
     requires numbered { IsSome (task_in pass.old) }
     requires out { place_in pass.old ≡ Out }
-    ensures own { SitsAt osq.now pass.new }
-    ensures number { KeepsNumber pass.old pass.new }
-    ensures goes_on { KeepsPast pass.old pass.new }
-    ensures last { IsLatest pass.new }
+    ensures on { StepsAt osq.now pass.old pass.new }
     ensures swapped { swaps_in pass.new ≡ swaps_in pass.old + 1 }
     ensures found { SawTail pass.old pass.new }
     ensures place { MatchBool result (place_in pass.new ≡ Head) (place_in pass.new ≡ Out) }

@@ -3,7 +3,7 @@ ghost use Rattle.std.specs.Prelude.{◌≡◌, ◌+◌, ◌<◌, Some, MatchBool
 ghost use Rattle.lock_core.specs.Pasts.{FoundAt};
 ghost use Rattle.lock_core.specs.Views.{ticked};
 ghost use Rattle.osq_nodes.specs.declared.node.Place.TheVariants.{Out, Waiting, Unlinked, Splicing, Relinking};
-ghost use Rattle.osq_nodes.specs.OsqHandles.{tasks_of, view_of, task_in, place_in, past_of, FoundThere, SitsAt, KeepsNumber, KeepsPast, IsLatest};
+ghost use Rattle.osq_nodes.specs.OsqHandles.{tasks_of, view_of, task_in, place_in, past_of, FoundThere, SitsAt, StepsAt};
 ghost use Rattle.osq_nodes.specs.OsqSteps.{placed};
 ghost use Rattle.osq_nodes.specs.Words.{next_at, prev_at};
 
@@ -19,10 +19,7 @@ pub fn take_back(osq: &Osq, pass: &mut OsqPass, task: u32, prev: u32) -> bool
     requires mine { task_in pass.old ≡ Some task }
     requires here { place_in pass.old ≡ Waiting }
     requires there { prev < tasks_of osq.now }
-    ensures own { SitsAt osq.now pass.new }
-    ensures number { KeepsNumber pass.old pass.new }
-    ensures goes_on { KeepsPast pass.old pass.new }
-    ensures last { IsLatest pass.new }
+    ensures on { StepsAt osq.now pass.old pass.new }
     ensures kept { MatchBool result (view_of pass.new ≡ placed (view_of pass.old) (Unlinked prev))
         (view_of pass.new ≡ ticked (view_of pass.old)) }
     ensures found { FoundThere result (next_at prev) (task + 1) pass.new }
@@ -37,10 +34,7 @@ pub fn reread(osq: &Osq, pass: &mut OsqPass, task: u32) -> u32
     requires own { SitsAt osq.now pass.old }
     requires mine { task_in pass.old ≡ Some task }
     requires here { place_in pass.old ≡ Waiting }
-    ensures own { SitsAt osq.now pass.new }
-    ensures number { KeepsNumber pass.old pass.new }
-    ensures goes_on { KeepsPast pass.old pass.new }
-    ensures last { IsLatest pass.new }
+    ensures on { StepsAt osq.now pass.old pass.new }
     ensures kept { view_of pass.new ≡ ticked (view_of pass.old) }
     ensures there { result < tasks_of osq.now }
     ensures found { FoundAt (prev_at task) (result + 1) (past_of pass.new) }
@@ -54,10 +48,7 @@ pub fn splice(osq: &Osq, pass: &mut OsqPass, task: u32, prev: u32, next: u32)
     requires mine { task_in pass.old ≡ Some task }
     requires here { place_in pass.old ≡ Splicing prev next }
     requires there { next < tasks_of osq.now }
-    ensures own { SitsAt osq.now pass.new }
-    ensures number { KeepsNumber pass.old pass.new }
-    ensures goes_on { KeepsPast pass.old pass.new }
-    ensures last { IsLatest pass.new }
+    ensures on { StepsAt osq.now pass.old pass.new }
     ensures kept { view_of pass.new ≡ placed (view_of pass.old) (Relinking prev next) }
 {
     // Before the predecessor's link: whoever finds that link may leave, and store its own
@@ -71,10 +62,7 @@ pub fn relink(osq: &Osq, pass: &mut OsqPass, task: u32, prev: u32, next: u32)
     requires mine { task_in pass.old ≡ Some task }
     requires here { place_in pass.old ≡ Relinking prev next }
     requires there { prev < tasks_of osq.now }
-    ensures own { SitsAt osq.now pass.new }
-    ensures number { KeepsNumber pass.old pass.new }
-    ensures goes_on { KeepsPast pass.old pass.new }
-    ensures last { IsLatest pass.new }
+    ensures on { StepsAt osq.now pass.old pass.new }
     ensures kept { view_of pass.new ≡ placed (view_of pass.old) Out }
 {
     // The successor can't have left, as this link is in no word yet that it could take it out of.

@@ -14,7 +14,7 @@ use Rattle.lock_core.specs.declared.view.Held.TheVariants.{No, Shared}
 use Rattle.lock_core.specs.declared.view.Marks.{Marks}
 use Rattle.lock_core.specs.declared.view.Moment.{Moment}
 use Rattle.lock_core.specs.Layout.{site}
-use Rattle.lock_core.specs.LockedLaws.{move-steps}
+use Rattle.lock_core.specs.Laws.Locked.{move-steps}
 use Rattle.lock_core.specs.Locked.{IsGone, IsSiteStep, SamePass}
 use Rattle.lock_core.specs.Pasts.{Instant, marks_of, moment, Moves, Paced, Ran}
 use Rattle.lock_core.specs.ViewParts.{at_unmap}
@@ -27,7 +27,7 @@ use Rattle.percpu_rwsem.specs.declared.view.Phase.{Phase}
 use Rattle.percpu_rwsem.specs.declared.view.Phase.TheVariants.{Idle, Added, Back, Reads, Blocks}
 use Rattle.percpu_rwsem.specs.PhaseSteps.{PhaseGoes, Words}
 use Rattle.percpu_rwsem.specs.Phases.{PhasePart, PartOk, phase_part, inside_of, code_of, blocks_of, inside_weight, code_weight, blocks_weight, held_by}
-use Rattle.percpu_rwsem.specs.PhaseLaws.{held-all, held-some, no-alone, no-shared, shared-alone, shared-reads, alone-blocks, blocks-codes, only-code, some-of, inside-named}
+use Rattle.percpu_rwsem.specs.Laws.Phase.{held-all, held-some, no-alone, no-shared, shared-alone, shared-reads, alone-blocks, blocks-codes, only-code, some-of, inside-named}
 use Rattle.percpu_rwsem.specs.PercpuRuled.{V, PercpuKept, PercpuMoves, block_at, count_at, kept_phase, never, words_in}
 use Rattle.percpu_rwsem.specs.PercpuStated.{phase_in, seen_in, IsInside, IsBlocking, IsPassAt, CountStates, empty, full, BlockStates, free, taken, IsPercpuSite, IsPercpuStep, phase_marks}
 use Rattle.percpu_rwsem.proofs.Stepping.{count-bit, part-ok}
@@ -110,7 +110,7 @@ module _ {Call : Type 0} (o : Obj Call) (size : ℕ) (k : Plan) (ws : List ℕ) 
   block-states : BlockStates (get_or ws block_at 0) hs ms
   block-states = let code = r.phases.code in elim (native.Mathlib.Decide.dec_le (total blocks_of ps) 0) [
     | yes none_blocks ↦
-        let z = Rattle.percpu_rwsem.specs.PhaseLaws.no-codes ps none_blocks in free (omega (arith, z, code)) (λ i h m at is. let x = viewed vs i h m at in let b = blocking-is x.0 m x.3 is in let e : blocks_of (phase_part x.0) ≡ 1 = ap blocks_weight b.1 in let least = total-at blocks_of ps i (phase_part x.0) (at_map phase_part vs i x.0 x.1) in absurd (omega (arith, e, least, none_blocks)))
+        let z = Rattle.percpu_rwsem.specs.Laws.Phase.no-codes ps none_blocks in free (omega (arith, z, code)) (λ i h m at is. let x = viewed vs i h m at in let b = blocking-is x.0 m x.3 is in let e : blocks_of (phase_part x.0) ≡ 1 = ap blocks_weight b.1 in let least = total-at blocks_of ps i (phase_part x.0) (at_map phase_part vs i x.0 x.1) in absurd (omega (arith, e, least, none_blocks)))
     | no some_blocks ↦ let s = some-of blocks_of ps (omega (arith, some_blocks)) in let x = at_unmap phase_part vs s.0 s.1 s.2 in let has : 0 < blocks_of (phase_part x.0) = subst (λ (z : PhasePart). 0 < blocks_of z) (sym x.2) s.3 in one s.0 x.0 x.1 has x.0.ext refl x.0.hand.task refl
   ]
     where

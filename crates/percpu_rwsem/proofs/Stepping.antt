@@ -26,7 +26,7 @@ use Rattle.lock_core.specs.Totals.{total, total-at, total-two}
 use Rattle.lock_core.specs.ViewParts.{Each, at_unmap}
 use Rattle.lock_core.specs.Sites.{SiteKept, HandGoes, KeepsSaw, HasPlan}
 use Rattle.lock_core.specs.Moves.{Lets}
-use Rattle.lock_core.specs.MoveLaws.{hand-stays, saw-stays}
+use Rattle.lock_core.specs.Laws.Move.{hand-stays, saw-stays}
 use Rattle.lock_core.proofs.HandLaws.{is_number-here, is_number-else}
 use Rattle.lock_core.proofs.RowLaws.{none-some}
 use Rattle.lock_core.proofs.HoldSteps.{none-alone, quiet-state, site-takes, site-frees}
@@ -34,9 +34,9 @@ use Rattle.percpu_rwsem.specs.declared.view.Phase.{Phase}
 use Rattle.percpu_rwsem.specs.declared.view.Phase.TheVariants.{Idle, Added, Back, Reads, Blocks}
 use Rattle.percpu_rwsem.specs.Phases.{PhasePart, PartOk, part, phase_part, inside_of, code_of, blocks_of, inside_weight, code_weight, blocks_weight}
 use Rattle.percpu_rwsem.specs.PhaseSteps.{BlockGoes, CountGoes, PhaseGoes}
-use Rattle.percpu_rwsem.specs.PhaseLaws.{no-shared, no-alone, held-all, held-some, shared-reads, alone-blocks, blocks-codes, only-code, some-of, inside-named, phases-step}
+use Rattle.percpu_rwsem.specs.Laws.Phase.{no-shared, no-alone, held-all, held-some, shared-reads, alone-blocks, blocks-codes, only-code, some-of, inside-named, phases-step}
 use Rattle.percpu_rwsem.specs.PercpuRuled.{V, PercpuKept, PercpuMoves, Phases, block_at, count_at, never, words_in}
-use Rattle.percpu_rwsem.specs.PercpuRuledLaws.{phase-stays, rule-goes, rule-puts}
+use Rattle.percpu_rwsem.specs.Laws.PercpuRuled.{phase-stays, rule-goes, rule-puts}
 use Rattle.percpu_rwsem.specs.PercpuPlays as play
 
 -- a live view's plan is the table's

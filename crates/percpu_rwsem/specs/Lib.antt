@@ -1,9 +1,7 @@
 pub mod Phases
-pub mod PhaseLaws
 pub mod PhaseSteps
 pub mod PercpuRuled
-pub mod PercpuRuledLaws
 pub mod PercpuPlays
 pub mod PercpuHandles
-pub mod PercpuSiteLaws
 pub mod PercpuStated
+pub mod Laws

@@ -60,7 +60,8 @@ Blocked st m n m' = (n ≡ 0 → Turns m (phased m.0 m.0.hand (Blocks 0)) m') ×
 -- The load of the next count by a pass that blocks and has seen t counts zero. It goes on where it finds 0, and holds alone after the last. Another task's count it is where it finds 1.
 abbrev pub Drained : {Call : Type 0} → Obj Call → Step (Unit {0}) → Sat Phase → ℕ → Sat Phase → Type 0
 Drained o st m n m' =
-    (n ≡ 0 → (t : ℕ) → m.0.ext ≡ Blocks t → (k : Plan) → m.0.hand.plan ≡ Some k → (t + 1 ≢ length k → Turns m (phased m.0 m.0.hand (Blocks (t + 1))) m') × (t + 1 ≡ length k → Gets o Alone (Blocks (t + 1)) m m'))
+    (n ≡ 0 → (t : ℕ) → m.0.ext ≡ Blocks t → (k : Plan) → m.0.hand.plan ≡ Some k → (t + 1 ≢ length k → Turns m (phased m.0 m.0.hand (Blocks (t + 1))) m')
+    × (t + 1 ≡ length k → Gets o Alone (Blocks (t + 1)) m m'))
     × (n ≢ 0 → (n ≡ 1) × ((t : ℕ) → m.0.ext ≡ Blocks t → m.0.hand.task ≢ Some t) × Turns m (ticked m.0) m')
 
 -- who held alone holds nothing now

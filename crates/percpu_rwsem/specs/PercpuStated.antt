@@ -54,7 +54,8 @@ pub data CountStates (count t : ℕ) (hs : List Hand) (ms : List Marks) : Type 0
 -- the block word is the code of the one task that blocks, and 0 where none does
 pub data BlockStates (block : ℕ) (hs : List Hand) (ms : List Marks) : Type 0 where
   free : block ≡ 0 → ((i : ℕ) (h : Hand) (m : Marks) → IsPassAt hs ms i h m → IsBlocking m → ⊥) → BlockStates block hs ms
-  taken : (i : ℕ) (h : Hand) (m : Marks) → IsPassAt hs ms i h m → IsBlocking m → (t : ℕ) → h.task ≡ Some t → block ≡ t + 1 → ((j : ℕ) (g : Hand) (n : Marks) → j ≢ i → IsPassAt hs ms j g n → IsBlocking n → ⊥) → BlockStates block hs ms
+  taken : (i : ℕ) (h : Hand) (m : Marks) → IsPassAt hs ms i h m → IsBlocking m → (t : ℕ) → h.task ≡ Some t → block ≡ t + 1
+      → ((j : ℕ) (g : Hand) (n : Marks) → j ≢ i → IsPassAt hs ms j g n → IsBlocking n → ⊥) → BlockStates block hs ms
 
 pub record StatesPhases (tasks block : ℕ) (count : ℕ → ℕ) (hs : List Hand) (ms : List Marks) : Type 0 where
   pub counts : (t : ℕ) → t < tasks → CountStates (count t) t hs ms
@@ -79,7 +80,8 @@ module _ {Call : Type 0} (o : Obj Call) (size : ℕ) where
 abbrev pub phase_marks : Phase → Marks
 phase_marks e = record { numbers = kept_phase e }
 
--- One step of one pass, which led from a phase to a phase, and did to the counts and the block word what goes with that. Before it and behind it the pass held as its phase says. While the pass has something in the words it keeps its number. Every other pass stays in its phase, and a new one has nothing in the words.
+-- One step of one pass, which led from a phase to a phase, and did to the counts and the block word what goes with that. Before it and behind it the pass held as its phase says. While the pass has
+-- something in the words it keeps its number. Every other pass stays in its phase, and a new one has nothing in the words.
 pub record IsPercpuStep (k : Plan) (x y : Moment) : Type 0 where
   pub by : IsSiteStep k block_at x y
   pub before : Phase
@@ -93,7 +95,8 @@ pub record IsPercpuStep (k : Plan) (x y : Moment) : Type 0 where
   pub others : (j : ℕ) (m n : Marks) → j ≢ by.id → get_elem? x.marks j ≡ some m → get_elem? y.marks j ≡ some n → n ≡ m
   pub new : (j : ℕ) (m : Marks) → length x.marks ≤ j → get_elem? y.marks j ≡ some m → m ≡ phase_marks Idle
 
--- At this step of the pass which has the task's number, made since its past was the old one, the task's count was 1. If the pass held shared until then, the step left the count at 0, by what `recall` tells of each step.
+-- At this step of the pass which has the task's number, made since its past was the old one, the task's count was 1. If the pass held shared until then, the step left the count at 0, by what `recall`
+-- tells of each step.
 pub record CountFalls (k : Plan) (task : Option ℕ) (step : ℕ) (old new : List Moment) : Type 0 where
   pub own : ℕ
   pub named : task ≡ Some own

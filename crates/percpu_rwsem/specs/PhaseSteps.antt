@@ -30,7 +30,9 @@ pub record BlockGoes (n n' : ℕ) (w w' : Words) : Type 0 where
   pub is : w'.block ≡ n'
   pub counts : SameCounts w w'
 
--- From which phase a step leads to which, of a pass that has this number of a task, and what it does to the words. A reader adds to its own count; where it then finds the block word 0 it holds, and else it takes the addition back. A reader's release takes it back too. A writer blocks by its own code where nobody does, sees one count zero after the other, and lets go by a 0. Any other step leaves the phase and the words.
+-- From which phase a step leads to which, of a pass that has this number of a task, and what it does to the words. A reader adds to its own count; where it then finds the block word 0 it holds, and
+-- else it takes the addition back. A reader's release takes it back too. A writer blocks by its own code where nobody does, sees one count zero after the other, and lets go by a 0. Any other step
+-- leaves the phase and the words.
 abbrev pub PhaseGoes : Option ℕ → (w w' : Words) → Phase → Phase → Type 0
 PhaseGoes task w w' Idle Idle = SameWords w w'
 PhaseGoes task w w' Idle Added = (t : ℕ) × (task ≡ Some t) × CountGoes t 0 1 w w'

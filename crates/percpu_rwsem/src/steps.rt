@@ -4,7 +4,7 @@ ghost use Rattle.lock_core.specs.declared.view.Held.TheVariants.{No, Shared, Alo
 ghost use Rattle.lock_core.specs.Holding.{released};
 ghost use Rattle.lock_core.specs.Pasts.{FoundAt};
 ghost use Rattle.lock_core.specs.Views.{ticked};
-ghost use Rattle.lock_core.specs.SiteHandles.{IsLatest, plan_of, view_of, hand_in, past_of, task_in, held_in, SitsAt, KeepsPast, SaysSame};
+ghost use Rattle.lock_core.specs.SiteHandles.{plan_of, view_of, hand_in, past_of, task_in, held_in, SitsAt, StepsAt, SaysSame};
 ghost use Rattle.percpu_rwsem.specs.declared.view.Phase.TheVariants.{Idle, Added, Back, Reads, Blocks};
 ghost use Rattle.percpu_rwsem.specs.PercpuPlays.{NamesOther, NamesTask, TakesPhase, phased, unheld, Goes, Looked, Ended, Seen, Blocked, Drained, Unblocked};
 ghost use Rattle.percpu_rwsem.specs.PercpuRuled.{block_at, count_at};
@@ -84,9 +84,7 @@ pub(crate) fn add<O: Object>(site: &Site<PercpuRule<O>>, pass: &mut Pass<PercpuR
     requires small { task < MAX_TASKS }
     requires out { held_in pass.old ≡ No }
     requires idle { (view_of pass.old).ext ≡ Idle }
-    ensures own { SitsAt site.now pass.new }
-    ensures goes_on { KeepsPast pass.old pass.new }
-    ensures last { IsLatest pass.new }
+    ensures on { StepsAt site.now pass.old pass.new }
     ensures face { SaysSame pass.old pass.new }
     ensures kept { view_of pass.new ≡ phased (view_of pass.old) (hand_in pass.old) Added }
 {
@@ -105,9 +103,7 @@ pub(crate) fn look<O: Object>(
     requires mine { task_in pass.old ≡ Some task }
     requires out { held_in pass.old ≡ No }
     requires added { (view_of pass.old).ext ≡ Added }
-    ensures own { SitsAt site.now pass.new }
-    ensures goes_on { KeepsPast pass.old pass.new }
-    ensures last { IsLatest pass.new }
+    ensures on { StepsAt site.now pass.old pass.new }
     ensures took { IfOk result (λ _. TakesPhase O.object (plan_of site.now) Shared Reads
         (view_of pass.old) (view_of pass.new)) }
     ensures free { IfOk result (λ _. FoundAt block_at 0 (past_of pass.new)) }
@@ -137,9 +133,7 @@ pub(crate) fn go_back<O: Object>(
     requires small { task < MAX_TASKS }
     requires out { held_in pass.old ≡ No }
     requires back { (view_of pass.old).ext ≡ Back }
-    ensures own { SitsAt site.now pass.new }
-    ensures goes_on { KeepsPast pass.old pass.new }
-    ensures last { IsLatest pass.new }
+    ensures on { StepsAt site.now pass.old pass.new }
     ensures face { SaysSame pass.old pass.new }
     ensures kept { view_of pass.new ≡ phased (view_of pass.old) (hand_in pass.old) Idle }
 {
@@ -159,9 +153,7 @@ pub(crate) fn end_read<O: Object>(
     requires held { held_in pass.old ≡ Shared }
     requires reads { (view_of pass.old).ext ≡ Reads }
     requires quiet { (hand_in pass.old).writes ≡ false }
-    ensures own { SitsAt site.now pass.new }
-    ensures goes_on { KeepsPast pass.old pass.new }
-    ensures last { IsLatest pass.new }
+    ensures on { StepsAt site.now pass.old pass.new }
     ensures kept { view_of pass.new ≡
         phased (view_of pass.old) (released (hand_in pass.old) 0) Idle }
     ensures found { FoundAt (count_at task) 1 (past_of pass.new) }
@@ -174,9 +166,7 @@ pub(crate) fn end_read<O: Object>(
 /// Loads the block word. It is 0 or the code of a task.
 pub(crate) fn see<O: Object>(site: &Site<PercpuRule<O>>, pass: &mut Pass<PercpuRule<O>>) -> u64
     requires own { SitsAt site.now pass.old }
-    ensures own { SitsAt site.now pass.new }
-    ensures goes_on { KeepsPast pass.old pass.new }
-    ensures last { IsLatest pass.new }
+    ensures on { StepsAt site.now pass.old pass.new }
     ensures face { SaysSame pass.old pass.new }
     ensures kept { view_of pass.new ≡ ticked (view_of pass.old) }
     ensures names { result ≢ 0 → NamesTask (plan_of site.now) result }
@@ -197,9 +187,7 @@ pub(crate) fn block<O: Object>(
     requires small { task < MAX_TASKS }
     requires out { held_in pass.old ≡ No }
     requires idle { (view_of pass.old).ext ≡ Idle }
-    ensures own { SitsAt site.now pass.new }
-    ensures goes_on { KeepsPast pass.old pass.new }
-    ensures last { IsLatest pass.new }
+    ensures on { StepsAt site.now pass.old pass.new }
     ensures face { SaysSame pass.old pass.new }
     ensures blocks { IfOk result (λ _.
         view_of pass.new ≡ phased (view_of pass.old) (hand_in pass.old) (Blocks 0)) }
@@ -230,9 +218,7 @@ pub(crate) fn drain<O: Object>(
     requires there { seen < length (plan_of site.now) }
     requires out { held_in pass.old ≡ No }
     requires blocks { (view_of pass.old).ext ≡ Blocks seen }
-    ensures own { SitsAt site.now pass.new }
-    ensures goes_on { KeepsPast pass.old pass.new }
-    ensures last { IsLatest pass.new }
+    ensures on { StepsAt site.now pass.old pass.new }
     ensures next { IfOk result (λ _. seen + 1 ≢ length (plan_of site.now) →
         (view_of pass.new ≡ phased (view_of pass.old) (hand_in pass.old) (Blocks (seen + 1)))) }
     ensures took { IfOk result (λ _. seen + 1 ≡ length (plan_of site.now) →
@@ -266,9 +252,7 @@ pub(crate) fn unblock<O: Object>(
     requires blocks { (n : ℕ) × ((view_of pass.old).ext ≡ Blocks n) }
     requires unshared { held_in pass.old ≢ Shared }
     requires quiet { (hand_in pass.old).writes ≡ false }
-    ensures own { SitsAt site.now pass.new }
-    ensures goes_on { KeepsPast pass.old pass.new }
-    ensures last { IsLatest pass.new }
+    ensures on { StepsAt site.now pass.old pass.new }
     ensures kept { view_of pass.new ≡
         phased (view_of pass.old) (unheld (hand_in pass.old)) Idle }
 {

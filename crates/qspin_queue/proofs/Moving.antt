@@ -15,7 +15,7 @@ use Rattle.lock_core.specs.Totals.{total, total-set, total-at}
 use Rattle.lock_core.specs.Views.{SpinPart}
 use Rattle.lock_core.specs.LockHands.{point_at}
 use Rattle.lock_core.specs.SpinFrames.{stands, holds_of, takes_of, pends_of, undoes_of}
-use Rattle.lock_core.specs.SpinLaws.{recount, lock-of, rests-new}
+use Rattle.lock_core.specs.Laws.Spin.{recount, lock-of, rests-new}
 use Rattle.lock_core.specs.Spins.{SpinsMove, SpinLeaves, SpinStep, TakesFrom, ComesTo, LeavesBy, StaysAt, frame_on, word_in, next_in, locked_in}
 use Rattle.lock_core.specs.SpinStated.{owns_of, IsSpinStep}
 use Rattle.qspin_word.proofs.SpinSteps.{stays-at}

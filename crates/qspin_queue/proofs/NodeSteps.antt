@@ -12,7 +12,7 @@ use Rattle.lock_core.specs.declared.view.Point.TheVariants.{Out, Clearing, Clear
 use Rattle.lock_core.specs.SpinFrames.{counts, when, code_is, stands, uses, stands_as, uses_as}
 use Rattle.lock_core.specs.SpinQueues.{tail_of, tail_unit, Before, Queued, Linked, StandsAtHead, PointOk, FrameOk, LockKept, Put}
 use Rattle.qspin_word.proofs.Codes.{code_is-same, code_is-else, one_place, one_behind, tail-snoc, tail-in, no_tail, past_end, alone, some_first}
-use Rattle.lock_core.specs.SpinLaws.{Recount, recount, requeued, rekept}
+use Rattle.lock_core.specs.Laws.Spin.{Recount, recount, requeued, rekept}
 use Rattle.qspin_queue.proofs.Fronts.{none_ready}
 use Rattle.qspin_queue.proofs.Standing.{once, other_code, not_there, stands-uses, stands-one, uses-one, relocked, renext, longer, outside, shifted}
 use Rattle.qspin_word.specs.SpinWordHands.{at_point}

@@ -7,7 +7,7 @@ use Rattle.lock_core.specs.Layout.{SiteWords, part}
 use Rattle.lock_core.specs.Moves.{SiteMoveWhere}
 use Rattle.lock_core.specs.Views.{spin_part}
 use Rattle.lock_core.specs.Pasts.{EachMoment, Moves, Ran}
-use Rattle.lock_core.specs.SiteRunLaws.{ran-each, ran-so}
+use Rattle.lock_core.specs.Laws.SiteRun.{ran-each, ran-so}
 use Rattle.lock_core.specs.Spins.{SpinsKept, SpinsMove}
 use Rattle.lock_core.specs.SpinStated.{CountsSpin, AreSpinLocksThen, IsSpinLocksMove}
 use Rattle.qspin_word.specs.Allows.{AreNumbered}

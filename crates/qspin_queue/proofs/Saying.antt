@@ -18,7 +18,7 @@ use Rattle.lock_core.specs.LockHands.{frame_at, RestsAt}
 use Rattle.lock_core.specs.ViewParts.{at_unmap}
 use Rattle.lock_core.specs.Pasts.{instant, moment}
 use Rattle.lock_core.specs.SpinQueues.{tail_of}
-use Rattle.lock_core.specs.SpinLaws.{lock-of}
+use Rattle.lock_core.specs.Laws.Spin.{lock-of}
 use Rattle.lock_core.specs.Spins.{SpinsKept, SpinFacts, frame_on, word_in, next_in, locked_in}
 use Rattle.lock_core.specs.SpinStated.{SpinWordsSay, IsSpinWord, UsesOwnNodes, UsesEachBelow, AreSpinLocksThen}
 use Rattle.qspin_word.specs.Allows.{AreNumbered}

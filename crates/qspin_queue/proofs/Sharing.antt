@@ -16,7 +16,7 @@ use Rattle.lock_core.specs.Views.{SpinPart}
 use Rattle.lock_core.specs.LockHands.{lock_hand_at, frame_at, point_at, depth_of, with_lock_hand, RestsAt, at-with, at-else, depth-with}
 use Rattle.lock_core.specs.SpinFrames.{code_is, uses, uses_as, stands_as}
 use Rattle.lock_core.specs.SpinQueues.{LockKept, Queued, PointOk, Put, tail_of, tail_unit}
-use Rattle.lock_core.specs.SpinLaws.{lock-of}
+use Rattle.lock_core.specs.Laws.Spin.{lock-of}
 use Rattle.lock_core.specs.Spins.{SpinFacts, IsOwnNode, OwnNodes, frame_on, node_code, word_in, next_in, locked_in, next_at, locked_at}
 use Rattle.qspin_word.specs.Allows.{AreNumbered}
 use Rattle.qspin_word.proofs.Codes.{some_summand, tail-in, total-below}

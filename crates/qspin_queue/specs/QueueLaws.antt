@@ -18,4 +18,5 @@ MissingLinksAreOwedOnce = (n first : ℕ) (m : Moment) (r : AreSpinLocksThen n f
 
 -- a queue that isn't empty has a head: its first, which found no tail or was told
 abbrev pub QueueHasHead : Type 0
-QueueHasHead = (n first : ℕ) (m : Moment) (r : AreSpinLocksThen n first m) (l : ℕ) → l < n → r.queues l ≢ [] → (x : ℕ) × (get_elem? (r.queues l) 0 ≡ some x) × ((found_by (map (frame_at l) m.spins) x ≡ 0) ⊎ (locked_in (part first SPIN_WORDS m.words) x ≡ 1))
+QueueHasHead = (n first : ℕ) (m : Moment) (r : AreSpinLocksThen n first m) (l : ℕ) → l < n → r.queues l ≢ [] → (x : ℕ) × (get_elem? (r.queues l) 0 ≡ some x)
+    × ((found_by (map (frame_at l) m.spins) x ≡ 0) ⊎ (locked_in (part first SPIN_WORDS m.words) x ≡ 1))

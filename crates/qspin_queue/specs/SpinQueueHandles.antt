@@ -49,9 +49,11 @@ module _ {R O E C : Type 0} where
     pub small : task < length (plan_of site)
     pub four : index < 4
 
-  -- It took the lock as the ready head of the queue. Or it took it before it stood there, by a try with its node cleared, at one of its first so many steps. Or it took it by a try that it repeated, since all nodes of its task were in use.
+  -- It took the lock as the ready head of the queue. Or it took it before it stood there, by a try with its node cleared, at one of its first so many steps. Or it took it by a try that it repeated,
+  -- since all nodes of its task were in use.
   abbrev pub TakesInTurn : (l few : ℕ) → Pass R O E C → Pass R O E C → Type 0
-  TakesInTurn l few old new = ((lock_hand_at l (spin_in new)).from ≡ Ready) ⊎ (((lock_hand_at l (spin_in new)).from ≡ Cleared) × ((lock_hand_at l (spin_in new)).took ≤ (view_of old).steps + few)) ⊎ (((lock_hand_at l (spin_in new)).from ≡ Trying) × (4 ≤ depth_of (spin_in old)))
+  TakesInTurn l few old new = ((lock_hand_at l (spin_in new)).from ≡ Ready) ⊎ (((lock_hand_at l (spin_in new)).from ≡ Cleared) × ((lock_hand_at l (spin_in new)).took ≤ (view_of old).steps + few))
+      ⊎ (((lock_hand_at l (spin_in new)).from ≡ Trying) × (4 ≤ depth_of (spin_in old)))
 
   -- a step of the call found a rival; where the pass took the lock by the try with its node cleared, it did so within five steps of that one
   abbrev pub QueuesBehind : (l : ℕ) (quiet : Type 0) (at : ℕ) → Pass R O E C → Pass R O E C → Type 0

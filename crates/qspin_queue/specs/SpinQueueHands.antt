@@ -50,7 +50,8 @@ module _ {E : Type 0} (l : ℕ) where
 
   -- the exchange of the tail, from the word that it saw: where it finds no tail it is the head, else it has a predecessor
   abbrev pub queued : ℕ → ℕ → View E → SpinHand
-  queued from n v = if n == from then (if nat_lt n 512 then framed l v.spin (record (frame_at l v.spin) { point = Head; found = 0; next = 0 }) else framed l v.spin (record (frame_at l v.spin) { point = Linking; found = tail_in n })) else v.spin
+  queued from n v = if n == from then (if nat_lt n 512 then framed l v.spin (record (frame_at l v.spin) { point = Head; found = 0; next = 0 }) else framed l v.spin
+      (record (frame_at l v.spin) { point = Linking; found = tail_in n })) else v.spin
 
   -- its predecessor is told its code
   abbrev pub linked : View E → SpinHand

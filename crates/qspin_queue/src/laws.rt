@@ -4,7 +4,7 @@ ghost use Rattle.std.specs.Prelude.{◌≡◌, [], ◌∷◌};
 ghost use Rattle.lock_core.specs.Views.{ticked};
 ghost use Rattle.lock_core.specs.SpinStated.{AreSpinLocksThen, IsSpinLocksMove};
 ghost use Rattle.lock_core.specs.Pasts.{EachMoment, Ran, Tail, opening};
-ghost use Rattle.lock_core.specs.SiteHandles.{plan_of, view_of, past_of, SitsAt, KeepsPast, KeepsNest, IsLatest};
+ghost use Rattle.lock_core.specs.SiteHandles.{plan_of, view_of, past_of, SitsAt, StepsAt, KeepsNest};
 ghost use Rattle.qspin_queue.specs.QueueLaws.{MissingLinksAreOwedOnce, QueueHasHead};
 
 use lock_core::{Pass, Site, SpinHost};
@@ -14,11 +14,9 @@ use lock_core::{Pass, Site, SpinHost};
 /// its queue, which nodes each pass used, and what each step did to them.
 pub fn recall_spin_lock<H: SpinHost>(site: &Site<H>, pass: &mut Pass<H>)
     requires own { SitsAt site.now pass.old }
-    ensures own { SitsAt site.now pass.new }
-    ensures goes_on { KeepsPast pass.old pass.new }
+    ensures on { StepsAt site.now pass.old pass.new }
     ensures nest { KeepsNest pass.old pass.new }
     ensures kept { view_of pass.new ≡ ticked (view_of pass.old) }
-    ensures last { IsLatest pass.new }
     ensures begins { Tail (opening H.marks (plan_of site.now) H.idle ∷ []) (past_of pass.new) }
     ensures always { EachMoment (AreSpinLocksThen H.LOCKS H.FIRST) (past_of pass.new) }
     ensures moves { Ran H.marks (opening H.marks (plan_of site.now) H.idle)

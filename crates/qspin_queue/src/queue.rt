@@ -4,7 +4,7 @@ ghost use Rattle.lock_core.specs.declared.view.Point.TheVariants.{Out, Taking, T
 ghost use Rattle.lock_core.specs.LockHands.{RestsAt, frame_at, depth_of};
 ghost use Rattle.lock_core.specs.Views.{SpinRests};
 ghost use Rattle.lock_core.specs.Spins.{tail_in, word_at};
-ghost use Rattle.lock_core.specs.SiteHandles.{view_of, task_in, SitsAt, SaysSame, KeepsPast, IsLatest, KeepsNest, IsNestTold};
+ghost use Rattle.lock_core.specs.SiteHandles.{view_of, task_in, SitsAt, StepsAt, SaysSame, KeepsNest, IsNestTold};
 ghost use Rattle.qspin_word.specs.Ways.{lock_hand_to, LockGained, SpinGained};
 ghost use Rattle.qspin_word.specs.SpinWordHandles.{spin_in, point_in, lock_hand_of, IsAtNone, IsSameBut, KeepsFlagsBeside, KeepsNodes, OwnsPendingAt, SpinIdles, SpinWaits};
 ghost use Rattle.qspin_queue.specs.SpinQueueHands.{lock_hand_with, node_at, as_head, learning, entered};
@@ -536,10 +536,8 @@ fn contend<H: SpinHost, W: Wait, I: Interrupt<Site<H>>>(
     requires numbered { IsSome (task_in pass.old) }
     requires told { IsNestTold pass.old }
     requires out { RestsAt lock (spin_in pass.old) }
-    ensures own { SitsAt site.now pass.new }
+    ensures on { StepsAt site.now pass.old pass.new }
     ensures face { SaysSame pass.old pass.new }
-    ensures goes_on { KeepsPast pass.old pass.new }
-    ensures last { IsLatest pass.new }
     ensures gained { LockGained lock I.silent (view_of pass.old) (view_of pass.new) }
     ensures flags { KeepsFlagsBeside lock pass.old pass.new }
     ensures nodes { KeepsNodes pass.old pass.new }
@@ -580,10 +578,8 @@ pub fn lock_with<H: SpinHost, W: Wait, I: Interrupt<Site<H>>>(
     requires numbered { IsSome (task_in pass.old) }
     requires told { (H.LOCKS ≡ 1) ⊎ IsNestTold pass.old }
     requires out { RestsAt lock (spin_in pass.old) }
-    ensures own { SitsAt site.now pass.new }
+    ensures on { StepsAt site.now pass.old pass.new }
     ensures face { SaysSame pass.old pass.new }
-    ensures goes_on { KeepsPast pass.old pass.new }
-    ensures last { IsLatest pass.new }
     ensures told { 1 < H.LOCKS → IsNestTold pass.old → IsNestTold pass.new }
     ensures gained { LockGained lock I.silent (view_of pass.old) (view_of pass.new) }
     ensures nodes { depth_of (spin_in pass.new) ≡ depth_of (spin_in pass.old) }
@@ -618,10 +614,8 @@ pub fn lock<H: SpinHost, W: Wait>(site: &Site<H>, rt: &W, pass: &mut Pass<H>) ->
     requires numbered { IsSome (task_in pass.old) }
     requires told { (H.LOCKS ≡ 1) ⊎ IsNestTold pass.old }
     requires out { SpinRests (spin_in pass.old) }
-    ensures own { SitsAt site.now pass.new }
+    ensures on { StepsAt site.now pass.old pass.new }
     ensures face { SaysSame pass.old pass.new }
-    ensures goes_on { KeepsPast pass.old pass.new }
-    ensures last { IsLatest pass.new }
     ensures told { 1 < H.LOCKS → IsNestTold pass.old → IsNestTold pass.new }
     ensures gained { SpinGained (view_of pass.old) (view_of pass.new) }
     ensures fast { (result ≡ Way.Fast) ↔

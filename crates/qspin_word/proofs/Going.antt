@@ -4,7 +4,7 @@ use Rattle.lock_core.specs.declared.pass.Pass.{Pass}
 use Rattle.lock_core.specs.declared.site.Site.{Site}
 use Rattle.lock_core.specs.declared.view.SpinHand.{SpinHand}
 use Rattle.lock_core.specs.Pasts.{FoundAt, FoundAtStep}
-use Rattle.lock_core.specs.SiteRunLaws.{found-at-step}
+use Rattle.lock_core.specs.Laws.SiteRun.{found-at-step}
 use Rattle.lock_core.specs.SiteHandles.{view_of, hand_in, past_of, SaysSame, KeepsPast, IsDepthTold, IsNestTold, NotesLock}
 use Rattle.lock_core.specs.Nestings.{is_held, waits_at}
 use Rattle.lock_core.specs.declared.view.View.{View}

@@ -17,7 +17,7 @@ use Rattle.lock_core.specs.Views.{SpinPart}
 use Rattle.lock_core.specs.LockHands.{lock_hand_at, frame_at, point_at, RestsAt}
 use Rattle.lock_core.specs.SpinFrames.{stands, holds_of}
 use Rattle.lock_core.specs.SpinQueues.{LockKept, Put}
-use Rattle.lock_core.specs.SpinLaws.{lock-of}
+use Rattle.lock_core.specs.Laws.Spin.{lock-of}
 use Rattle.lock_core.specs.Spins.{SpinFacts, SpinsMove, LockIn, IsFew, OwnNodes, tail_in, QueueMoves, TakesFrom, ComesTo, LeavesBy, frame_on, word_in, next_in, locked_in, word_at, next_at, locked_at}
 
 -- the codes of nodes are small

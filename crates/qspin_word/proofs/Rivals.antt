@@ -6,7 +6,7 @@ use Rattle.lock_core.specs.declared.view.Moment.{Moment}
 use Rattle.lock_core.specs.declared.view.Point.TheVariants.{Out, Undoing}
 use Rattle.lock_core.specs.LockHands.{point_at}
 use Rattle.lock_core.specs.Pasts.{FoundAt, GoesOn, IsOwnStep}
-use Rattle.lock_core.specs.SiteRunLaws.{step-by}
+use Rattle.lock_core.specs.Laws.SiteRun.{step-by}
 use Rattle.qspin_word.specs.Ways.{RivalSince, SawAtStep}
 
 module _ (l : ℕ) (task : Option ℕ) (saw : Saw) (at : ℕ) (old past new : List Moment) where

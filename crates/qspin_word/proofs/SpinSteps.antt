@@ -20,7 +20,7 @@ use Rattle.lock_core.specs.Views.{SpinPart, spin_part, part_with}
 use Rattle.lock_core.specs.LockHands.{lock_hand_at, frame_at, with_lock_hand, RestsAt, RestsEverywhere, at-with, at-else}
 use Rattle.lock_core.specs.SpinFrames.{stands, uses, holds_at, takes_of, undoes_of, holds_of}
 use Rattle.lock_core.specs.SpinQueues.{LockKept}
-use Rattle.lock_core.specs.SpinLaws.{lock-of}
+use Rattle.lock_core.specs.Laws.Spin.{lock-of}
 use Rattle.lock_core.specs.Spins.{SpinFacts, SpinGoes, SpinsMove, OwnNodes, LockIn, tail_in, QueueMoves, TakesFrom, ComesTo, LeavesBy, frame_on, word_in, word_at, next_in, locked_in, holds_on}
 use Rattle.qspin_word.specs.Allows.{SpinAllows}
 use Rattle.qspin_word.specs.SpinWordHands.{at_point, framed, went, taken, took_at, saw_word, tried, looked, sought, grabbed, freed, pended, undone, awaited, turned}

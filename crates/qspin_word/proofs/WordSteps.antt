@@ -7,7 +7,7 @@ use Rattle.lock_core.specs.declared.view.Point.{Point}
 use Rattle.lock_core.specs.declared.view.Point.TheVariants.{Out, Undoing, Pending, Taking, Trying, Cleared, Holding}
 use Rattle.lock_core.specs.SpinQueues.{LockKept}
 use Rattle.qspin_word.proofs.Codes.{no_tail, some_stand}
-use Rattle.lock_core.specs.SpinLaws.{recount, rekept}
+use Rattle.lock_core.specs.Laws.Spin.{recount, rekept}
 use Rattle.qspin_word.specs.SpinWordHands.{at_point}
 
 module _ (next locked : ℕ → ℕ) (q : List ℕ) (fs : List Frame) (id : ℕ) (f : Frame) where

@@ -19,9 +19,11 @@ pub record AreNumbered (tasks : ℕ) (ps : List SpinPart) : Type 0 where
   pub apart : (i j : ℕ) (p r : SpinPart) (t : ℕ) → get_elem? ps i ≡ some p → get_elem? ps j ≡ some r → p.task ≡ Some t → r.task ≡ Some t → i ≡ j
 
 module _ {E : Type 0} where
-  -- whatever the words of so many spin locks are in a table for so many tasks, the pass may do the operation on the one at this place: it is a step at the lock of this number, after which the spin part is as this says of what was found, and so is what the step tells
+  -- whatever the words of so many spin locks are in a table for so many tasks, the pass may do the operation on the one at this place: it is a step at the lock of this number, after which the spin
+  -- part is as this says of what was found, and so is what the step tells
   abbrev pub SpinAllows : (n tasks l id : ℕ) → View E → ℕ → Op → (ℕ → SpinHand) → (ℕ → Type 0) → Type 0
-  SpinAllows n tasks l id v at op after tells = (w : List ℕ) (queues : ℕ → List ℕ) (ps : List SpinPart) → SpinFacts n w queues ps → AreNumbered tasks ps → get_elem? ps id ≡ some (spin_part v) → slice_index w at < 2 ^ 64
+  SpinAllows n tasks l id v at op after tells = (w : List ℕ) (queues : ℕ → List ℕ) (ps : List SpinPart) → SpinFacts n w queues ps → AreNumbered tasks ps → get_elem? ps id ≡ some (spin_part v)
+      → slice_index w at < 2 ^ 64
       → SpinsMove n id w ps (slice_set w at (word_after op (slice_index w at))) (slice_set ps id (part_with v (after (told_by op (slice_index w at)))))
       × SpinGoes (v.steps + 1) l v.spin (after (told_by op (slice_index w at)))
       × tells (told_by op (slice_index w at))

@@ -23,7 +23,8 @@ pub record AreAlike (b c : LockHand) : Type 0 where
   pub point : c.frame.point ≡ b.frame.point
   pub stays : b.frame.point ≢ Out → c ≡ b
 
--- This step of the pass which has the task's number was made since its past was the old one. It found neither tail nor pending bit in the word at this place. It left the pass as the owner of the bit, which waits for the locked byte to be 0.
+-- This step of the pass which has the task's number was made since its past was the old one. It found neither tail nor pending bit in the word at this place. It left the pass as the owner of the bit,
+-- which waits for the locked byte to be 0.
 pub record PendedAtStep (l : ℕ) (task : Option ℕ) (step at : ℕ) (old new : List Moment) : Type 0 where
   pub past : List Moment
   pub by : IsStepBy task step past

@@ -5,7 +5,7 @@ ghost use Rattle.lock_core.specs.Views.{SpinRests, SpinHolds};
 ghost use Rattle.lock_core.specs.LockHands.{RestsAt, HoldsAt};
 ghost use Rattle.lock_core.specs.Spins.{spun, word_at};
 ghost use Rattle.lock_core.specs.Pasts.{FoundAt};
-ghost use Rattle.lock_core.specs.SiteHandles.{view_of, past_of, task_in, SitsAt, SaysSame, KeepsPast, IsLatest, IsNestTold, NotesLock};
+ghost use Rattle.lock_core.specs.SiteHandles.{view_of, past_of, task_in, SitsAt, StepsAt, SaysSame, IsNestTold, NotesLock};
 ghost use Rattle.qspin_word.specs.SpinWordHands.{freed};
 ghost use Rattle.qspin_word.specs.SpinWordHandles.{spin_in, lock_hand_of, FindsRival, FirstFoundFree, IsSameBut, KeepsFlagsBeside, OwnsPendingAt, TriesOnlyFree, KeepsNodes};
 ghost use Rattle.qspin_word.specs.Ways.{LockTaken, LockGained, LockRefused, SpinTaken, SpinMissed};
@@ -39,10 +39,8 @@ pub fn trylock_at<H: SpinHost>(site: &Site<H>, pass: &mut Pass<H>, lock: usize) 
     requires numbered { IsSome (task_in pass.old) }
     requires there { lock < H.LOCKS }
     requires out { RestsAt lock (spin_in pass.old) }
-    ensures own { SitsAt site.now pass.new }
+    ensures on { StepsAt site.now pass.old pass.new }
     ensures face { SaysSame pass.old pass.new }
-    ensures goes_on { KeepsPast pass.old pass.new }
-    ensures last { IsLatest pass.new }
     ensures told { 1 < H.LOCKS → IsNestTold pass.old → IsNestTold pass.new }
     ensures took { IfOk result (λ _. LockTaken lock (view_of pass.old) (view_of pass.new)) }
     ensures missed { IfErr result (λ word. SpinMissed (view_of pass.old) word (view_of pass.new)) }
@@ -75,10 +73,8 @@ pub fn trylock<H: SpinHost>(site: &Site<H>, pass: &mut Pass<H>) -> Result<(), u6
     requires own { SitsAt site.now pass.old }
     requires numbered { IsSome (task_in pass.old) }
     requires out { SpinRests (spin_in pass.old) }
-    ensures own { SitsAt site.now pass.new }
+    ensures on { StepsAt site.now pass.old pass.new }
     ensures face { SaysSame pass.old pass.new }
-    ensures goes_on { KeepsPast pass.old pass.new }
-    ensures last { IsLatest pass.new }
     ensures told { 1 < H.LOCKS → IsNestTold pass.old → IsNestTold pass.new }
     ensures took { IfOk result (λ _. SpinTaken (view_of pass.old) (view_of pass.new)) }
     ensures missed { IfErr result (λ word. SpinMissed (view_of pass.old) word (view_of pass.new)) }
@@ -99,10 +95,8 @@ pub fn unlock_at<H: SpinHost>(site: &Site<H>, pass: &mut Pass<H>, lock: usize)
     requires there { lock < H.LOCKS }
     requires held { HoldsAt lock (spin_in pass.old) }
     requires free { H.may_free (view_of pass.old) }
-    ensures own { SitsAt site.now pass.new }
+    ensures on { StepsAt site.now pass.old pass.new }
     ensures face { SaysSame pass.old pass.new }
-    ensures goes_on { KeepsPast pass.old pass.new }
-    ensures last { IsLatest pass.new }
     ensures told { 1 < H.LOCKS → IsNestTold pass.old → IsNestTold pass.new }
     ensures kept { view_of pass.new ≡ spun (view_of pass.old) (freed lock (view_of pass.old)) }
 {
@@ -117,10 +111,8 @@ pub fn unlock<H: SpinHost>(site: &Site<H>, pass: &mut Pass<H>)
     requires numbered { IsSome (task_in pass.old) }
     requires held { SpinHolds (spin_in pass.old) }
     requires free { H.may_free (view_of pass.old) }
-    ensures own { SitsAt site.now pass.new }
+    ensures on { StepsAt site.now pass.old pass.new }
     ensures face { SaysSame pass.old pass.new }
-    ensures goes_on { KeepsPast pass.old pass.new }
-    ensures last { IsLatest pass.new }
     ensures told { 1 < H.LOCKS → IsNestTold pass.old → IsNestTold pass.new }
     ensures kept { view_of pass.new ≡ spun (view_of pass.old) (freed 0 (view_of pass.old)) }
 {
@@ -141,10 +133,8 @@ pub fn take_by_pending<H: SpinHost, W: Wait, I: Interrupt<Site<H>>>(
     requires there { lock < H.LOCKS }
     requires told { IsNestTold pass.old }
     requires out { RestsAt lock (spin_in pass.old) }
-    ensures own { SitsAt site.now pass.new }
+    ensures on { StepsAt site.now pass.old pass.new }
     ensures face { SaysSame pass.old pass.new }
-    ensures goes_on { KeepsPast pass.old pass.new }
-    ensures last { IsLatest pass.new }
     ensures nodes { KeepsNodes pass.old pass.new }
     ensures flags { KeepsFlagsBeside lock pass.old pass.new }
     ensures told { result ≡ false → IsNestTold pass.new }

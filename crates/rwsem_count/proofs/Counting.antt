@@ -24,7 +24,7 @@ use Rattle.lock_core.specs.Holding.{Learns, missed, released, downgraded}
 use Rattle.lock_core.specs.Totals.{total, total-at}
 use Rattle.lock_core.specs.Sites.{SiteKept, HasPlan}
 use Rattle.lock_core.specs.Moves.{Goes, Lets, TriesWhere}
-use Rattle.lock_core.specs.MoveLaws.{saw-stays}
+use Rattle.lock_core.specs.Laws.Move.{saw-stays}
 use Rattle.lock_core.proofs.HandLaws.{no-alone}
 use Rattle.lock_core.proofs.RowLaws.{none-some}
 use Rattle.lock_core.proofs.HoldSteps.{quiet-state, site-takes, site-misses, site-frees, site-downgrades}
@@ -32,7 +32,7 @@ use Rattle.lock_core.proofs.Steps.{chooses}
 use Rattle.rwsem_count.specs.declared.view.Bias.{Bias}
 use Rattle.rwsem_count.specs.declared.view.Bias.TheVariants.{Clear, Transit}
 use Rattle.rwsem_count.specs.Counts.{CountKept, CountMove, CountPart, HandStep, alone_in, shared_in, early_in, late_in, shared_weight, early_weight, late_weight, based, count_part, part}
-use Rattle.rwsem_count.specs.CountLaws.{count-reads, count-transit, count-backs, count-writes, count-frees-shared, count-frees-alone, count-downgrades}
+use Rattle.rwsem_count.specs.Laws.Count.{count-reads, count-transit, count-backs, count-writes, count-frees-shared, count-frees-alone, count-downgrades}
 use Rattle.rwsem_count.specs.CountWordSteps.{IsReadFree}
 use Rattle.rwsem_count.specs.CountPlays.{SeenBy, Looked, Gets, ReadAdded, ReadTaken, WriteTaken, Leaves}
 

@@ -18,7 +18,7 @@ use Rattle.lock_core.specs.SiteStated.{IsSite}
 use Rattle.rwsem_count.specs.declared.view.Bias.{Bias}
 use Rattle.rwsem_count.specs.declared.view.Bias.TheVariants.{Clear, Transit, Reserve}
 use Rattle.rwsem_count.specs.Counts.{CountKept, CountPart, count_part}
-use Rattle.rwsem_count.specs.Numbers.{number_weight}
+use Rattle.rwsem_count.specs.Laws.Numbers.{number_weight}
 use Rattle.rwsem_count.specs.CountStated.{StatesCount, kept_bias}
 
 -- the place of the count, behind the room of the spin locks

@@ -33,7 +33,8 @@ transit_of m = count m.numbers
 abbrev pub shared_of : Hand → ℕ
 shared_of h = shared_weight h.held
 
--- The word is that of a count whose writer bit is the number of passes that hold alone, and whose reader field is that of the passes that hold shared and of those in transit. Nobody waits in a list, so the other flags are clear.
+-- The word is that of a count whose writer bit is the number of passes that hold alone, and whose reader field is that of the passes that hold shared and of those in transit. Nobody waits in a list,
+-- so the other flags are clear.
 pub record StatesCount (word : ℕ) (hs : List Hand) (ms : List Marks) : Type 0 where
   pub count : Count
   pub is : count_word count ≡ word

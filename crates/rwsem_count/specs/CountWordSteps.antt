@@ -30,7 +30,8 @@ pub record HasFlags (old word writer waiters handoff : ℕ) : Type 0 where
   pub waiters_is : word / 2 % 2 ≡ waiters
   pub handoff_is : word / 4 % 2 ≡ handoff
 
--- When a queued writer's try gives which answer. It fails where the semaphore is another's, and where it is locked and the writer isn't overdue or HANDOFF is set already; where it is locked else, it asks by HANDOFF; and where it is free, it takes it.
+-- When a queued writer's try gives which answer. It fails where the semaphore is another's, and where it is locked and the writer isn't overdue or HANDOFF is set already; where it is locked else, it
+-- asks by HANDOFF; and where it is free, it takes it.
 abbrev pub Writes : (word : ℕ) (me_first first_marked alone overdue : Bool) → Write → Type 0
 Writes word me_first first_marked alone overdue Fail = IsAnothers word me_first first_marked ⊎ (IsLocked word × (HasHandoff word ⊎ (overdue ≡ false)))
 Writes word me_first first_marked alone overdue (Mark new) = IsLocked word × (overdue ≡ true) × (HasHandoff word → ⊥) × HasFlags word new (word % 2) (word / 2 % 2) 1

@@ -46,7 +46,8 @@ early_in p = early_weight p.bias
 abbrev pub late_in : CountPart → ℕ
 late_in p = late_weight p.bias
 
--- The writer bit is set exactly where a pass holds alone. The reader field counts the passes that hold shared, the biases, and `more` readers of which other words and views tell. Under a writer there is neither a reader nor a bias that was added before it.
+-- The writer bit is set exactly where a pass holds alone. The reader field counts the passes that hold shared, the biases, and `more` readers of which other words and views tell. Under a writer there
+-- is neither a reader nor a bias that was added before it.
 pub record CountKept (word more : ℕ) (ps : List CountPart) : Type 0 where
   pub low : word % 256 < 8
   pub writer : word % 2 ≡ total alone_in ps
@@ -57,7 +58,8 @@ pub record CountKept (word more : ℕ) (ps : List CountPart) : Type 0 where
 abbrev pub BiasGoes : ℕ → Bias → Bias → Type 0
 BiasGoes n b c = (c ≡ b) ⊎ (c ≡ Clear) ⊎ ((b ≡ Clear) × ((c ≡ Transit n) ⊎ (c ≡ Reserve n)))
 
--- Which steps of a pass may change the count so. WAITERS and HANDOFF stay. A writer comes only where nobody is counted and HANDOFF is clear. A reader comes where it is clear, by a bias whose addition saw it clear, or by a downgrade. A bias keeps the count that its addition found.
+-- Which steps of a pass may change the count so. WAITERS and HANDOFF stay. A writer comes only where nobody is counted and HANDOFF is clear. A reader comes where it is clear, by a bias whose addition
+-- saw it clear, or by a downgrade. A bias keeps the count that its addition found.
 pub record CountMove (n m : ℕ) (v u : CountPart) : Type 0 where
   pub flags : m / 2 % 128 ≡ n / 2 % 128
   pub writer : n % 2 ≡ 0 → m % 2 ≡ 1 → n / 4 % 2 ≡ 0

@@ -1,12 +1,9 @@
 pub mod Counts
-pub mod CountLaws
 pub mod CountSemaphores
 pub mod CountWordSteps
 pub mod CountPlays
 pub mod CountTries
-pub mod Numbers
 pub mod CountStated
 pub mod CountRuled
-pub mod CountRuledLaws
 pub mod CountHandles
-pub mod CountSiteLaws
+pub mod Laws

@@ -2,7 +2,7 @@
 ghost use Rattle.word_bits.specs.LockWords.{counted};
 ghost use Rattle.rwsem_count.specs.declared.view.Bias.TheVariants.{Clear};
 ghost use Rattle.rwsem_count.specs.CountRuled.{CountMoves, CountRuleKept, IsPlain, count_at, may_count, may_miss, new_bias, same_bias};
-ghost use Rattle.rwsem_count.specs.CountRuledLaws.{count-inside, count-there, rule-site, rule-count, rule-sites, rule-opens, rule-splits, rule-joins, rule-counts, rule-looks};
+ghost use Rattle.rwsem_count.specs.Laws.CountRuled.{count-inside, count-there, rule-site, rule-count, rule-sites, rule-opens, rule-splits, rule-joins, rule-counts, rule-looks};
 ghost use Rattle.rwsem_count.specs.CountStated.{kept_bias};
 ghost use Rattle.std.specs.Prelude.{◌≡◌, ◌<◌, false, refl};
 

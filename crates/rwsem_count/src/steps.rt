@@ -2,7 +2,7 @@
 ghost use Rattle.std.specs.Prelude.{◌≡◌, ◌≢◌, ◌+◌, ◌-◌, ℕ, false, IsSome, IfOk, IfErr};
 ghost use Rattle.word_bits.specs.LockWords.{IsLawfulCount};
 ghost use Rattle.lock_core.specs.declared.view.Held.TheVariants.{No, Shared, Alone};
-ghost use Rattle.lock_core.specs.SiteHandles.{IsLatest, plan_of, view_of, hand_in, past_of, task_in, held_in, SitsAt, KeepsPast, SaysSame};
+ghost use Rattle.lock_core.specs.SiteHandles.{plan_of, view_of, hand_in, past_of, task_in, held_in, SitsAt, StepsAt, SaysSame};
 ghost use Rattle.lock_core.specs.Holding.{downgraded, missed, released};
 ghost use Rattle.lock_core.specs.Pasts.{FoundAt};
 ghost use Rattle.rwsem_count.specs.declared.view.Bias.TheVariants.{Clear, Transit};
@@ -77,9 +77,7 @@ pub fn read_add<H: CountHost>(site: &Site<H>, pass: &mut Pass<H>) -> Result<(), 
     requires waits { (n : ℕ) →
         H.may_count (view_of pass.old) (record { held = No; bias = Transit n }) }
     requires misses { H.may_miss (view_of pass.old) }
-    ensures own { SitsAt site.now pass.new }
-    ensures goes_on { KeepsPast pass.old pass.new }
-    ensures last { IsLatest pass.new }
+    ensures on { StepsAt site.now pass.old pass.new }
     ensures took { IfOk result (λ _. TakesCount H.counted H.O.object (plan_of site.now) Shared
         (view_of pass.old) (view_of pass.new)) }
     ensures free { IfOk result (λ _. FindsFree H.COUNT 256 (past_of pass.new)) }
@@ -106,9 +104,7 @@ pub fn write_try<H: CountHost>(site: &Site<H>, pass: &mut Pass<H>) -> Result<(),
     requires clear { H.bias (view_of pass.old).ext ≡ Clear }
     requires writes { H.may_count (view_of pass.old) (record { held = Alone; bias = Clear }) }
     requires misses { H.may_miss (view_of pass.old) }
-    ensures own { SitsAt site.now pass.new }
-    ensures goes_on { KeepsPast pass.old pass.new }
-    ensures last { IsLatest pass.new }
+    ensures on { StepsAt site.now pass.old pass.new }
     ensures took { IfOk result (λ _. TakesCount H.counted H.O.object (plan_of site.now) Alone
         (view_of pass.old) (view_of pass.new)) }
     ensures free { IfOk result (λ _. FoundAt H.COUNT 0 (past_of pass.new)) }
@@ -133,9 +129,7 @@ pub fn read_back<H: CountHost>(site: &Site<H>, pass: &mut Pass<H>) -> u64
     requires transit { (word : ℕ) × (H.bias (view_of pass.old).ext ≡ Transit word) }
     requires may { H.may_count (view_of pass.old)
         (record { held = (hand_in pass.old).held; bias = Clear }) }
-    ensures own { SitsAt site.now pass.new }
-    ensures goes_on { KeepsPast pass.old pass.new }
-    ensures last { IsLatest pass.new }
+    ensures on { StepsAt site.now pass.old pass.new }
     ensures face { SaysSame pass.old pass.new }
     ensures kept { view_of pass.new ≡
         based H.counted (view_of pass.old) (hand_in pass.old) Clear }
@@ -154,9 +148,7 @@ pub fn up_read<H: CountHost>(site: &Site<H>, pass: &mut Pass<H>) -> u64
     requires clear { H.bias (view_of pass.old).ext ≡ Clear }
     requires quiet { (hand_in pass.old).writes ≡ false }
     requires may { H.may_count (view_of pass.old) (record { held = No; bias = Clear }) }
-    ensures own { SitsAt site.now pass.new }
-    ensures goes_on { KeepsPast pass.old pass.new }
-    ensures last { IsLatest pass.new }
+    ensures on { StepsAt site.now pass.old pass.new }
     ensures kept { view_of pass.new ≡
         based H.counted (view_of pass.old) (released (hand_in pass.old) result) Clear }
     ensures left { LeftBy H.COUNT H.may_be 256 0 result (past_of pass.new) }
@@ -175,9 +167,7 @@ pub fn up_write<H: CountHost>(site: &Site<H>, pass: &mut Pass<H>) -> u64
     requires clear { H.bias (view_of pass.old).ext ≡ Clear }
     requires quiet { (hand_in pass.old).writes ≡ false }
     requires may { H.may_count (view_of pass.old) (record { held = No; bias = Clear }) }
-    ensures own { SitsAt site.now pass.new }
-    ensures goes_on { KeepsPast pass.old pass.new }
-    ensures last { IsLatest pass.new }
+    ensures on { StepsAt site.now pass.old pass.new }
     ensures kept { view_of pass.new ≡
         based H.counted (view_of pass.old) (released (hand_in pass.old) result) Clear }
     ensures left { LeftBy H.COUNT H.may_be 1 0 result (past_of pass.new) }
@@ -197,9 +187,7 @@ pub fn downgrade<H: CountHost>(site: &Site<H>, pass: &mut Pass<H>) -> u64
     requires clear { H.bias (view_of pass.old).ext ≡ Clear }
     requires quiet { (hand_in pass.old).writes ≡ false }
     requires may { H.may_count (view_of pass.old) (record { held = Shared; bias = Clear }) }
-    ensures own { SitsAt site.now pass.new }
-    ensures goes_on { KeepsPast pass.old pass.new }
-    ensures last { IsLatest pass.new }
+    ensures on { StepsAt site.now pass.old pass.new }
     ensures kept { view_of pass.new ≡
         based H.counted (view_of pass.old) (downgraded (hand_in pass.old) result) Clear }
     ensures left { LeftBy H.COUNT H.may_be 0 255 result (past_of pass.new) }

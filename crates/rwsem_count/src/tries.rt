@@ -2,7 +2,7 @@
 ghost use Rattle.std.specs.Prelude.{◌≡◌, ◌≢◌, ◌+◌, ℕ, IsSome, IfOk, IfErr};
 ghost use Rattle.word_bits.specs.LockWords.{IsLawfulCount};
 ghost use Rattle.lock_core.specs.declared.view.Held.TheVariants.{No, Shared};
-ghost use Rattle.lock_core.specs.SiteHandles.{IsLatest, plan_of, view_of, past_of, task_in, held_in, SitsAt, KeepsPast, SaysSame};
+ghost use Rattle.lock_core.specs.SiteHandles.{plan_of, view_of, past_of, task_in, held_in, SitsAt, StepsAt, SaysSame};
 ghost use Rattle.lock_core.specs.Pasts.{FoundAt};
 ghost use Rattle.rwsem_count.specs.declared.view.Bias.TheVariants.{Clear};
 ghost use Rattle.rwsem_count.specs.CountPlays.{Looked, ReadTaken};
@@ -38,9 +38,7 @@ fn look<H: CountHost>(site: &Site<H>, pass: &mut Pass<H>) -> u64
     requires numbered { IsSome (task_in pass.old) }
     requires out { held_in pass.old ≡ No }
     requires misses { H.may_miss (view_of pass.old) }
-    ensures own { SitsAt site.now pass.new }
-    ensures goes_on { KeepsPast pass.old pass.new }
-    ensures last { IsLatest pass.new }
+    ensures on { StepsAt site.now pass.old pass.new }
     ensures face { SaysSame pass.old pass.new }
     ensures saw { SawCount (view_of pass.old) result (view_of pass.new) }
     ensures found { FoundAt H.COUNT result (past_of pass.new) }
@@ -58,9 +56,7 @@ fn take<H: CountHost>(site: &Site<H>, pass: &mut Pass<H>, word: u64) -> u64
     requires lawful { IsLawfulCount word }
     requires may { H.may_count (view_of pass.old) (record { held = Shared; bias = Clear }) }
     requires misses { H.may_miss (view_of pass.old) }
-    ensures own { SitsAt site.now pass.new }
-    ensures goes_on { KeepsPast pass.old pass.new }
-    ensures last { IsLatest pass.new }
+    ensures on { StepsAt site.now pass.old pass.new }
     ensures took { result ≡ word →
         TakesCount H.counted H.O.object (plan_of site.now) Shared
         (view_of pass.old) (view_of pass.new) }
@@ -89,9 +85,7 @@ pub fn read_try<H: CountHost, W: Wait>(
     requires clear { H.bias (view_of pass.old).ext ≡ Clear }
     requires may { MayReadSince H.may_count (view_of pass.old) }
     requires misses { MayMissSince H.may_miss (view_of pass.old) }
-    ensures own { SitsAt site.now pass.new }
-    ensures goes_on { KeepsPast pass.old pass.new }
-    ensures last { IsLatest pass.new }
+    ensures on { StepsAt site.now pass.old pass.new }
     ensures took { IfOk result (λ _. TakesSince H.counted H.O.object (plan_of site.now) Shared
         (view_of pass.old) (view_of pass.new)) }
     ensures free { IfOk result (λ _. FindsFree H.COUNT 0 (past_of pass.new)) }

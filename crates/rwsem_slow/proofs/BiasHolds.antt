@@ -24,7 +24,7 @@ use Rattle.lock_core.specs.Layout.{site}
 use Rattle.lock_core.specs.Locking.{Begins, Got, IsLetIn, IsStored, KeepsPlace, Takes}
 use Rattle.lock_core.specs.Moves.{Goes, Lets}
 use Rattle.lock_core.specs.Pasts.{FoundAt, FoundAtStep, GoesOn, IsOwnStep, IsStepBy}
-use Rattle.lock_core.specs.SiteRunLaws.{found-at-step, step-by}
+use Rattle.lock_core.specs.Laws.SiteRun.{found-at-step, step-by}
 use Rattle.lock_core.specs.Shown.{LeavesHold, Shown, shown}
 use Rattle.lock_core.specs.Signals.{OnlyConsumed}
 use Rattle.lock_core.specs.Totals.{total, total-at}
@@ -34,7 +34,7 @@ use Rattle.lock_core.proofs.HoldSteps.{quiet-state, site-takes}
 use Rattle.lock_core.proofs.RowLaws.{none-some}
 use Rattle.rwsem_count.specs.declared.view.Bias.TheVariants.{Clear, Transit}
 use Rattle.rwsem_count.specs.Counts.{CountPart, count_part, early_in, early_weight, part}
-use Rattle.rwsem_count.specs.CountLaws.{count-keeps}
+use Rattle.rwsem_count.specs.Laws.Count.{count-keeps}
 use Rattle.rwsem_count.specs.CountTries.{FindsShut, IsTransit}
 use Rattle.rwsem_count.proofs.Counting.{alone-parts, its-plan}
 use Rattle.rwsem_wake.specs.declared.view.SemHand.{SemHand}
@@ -44,10 +44,10 @@ use Rattle.rwsem_wake.specs.SemParts.{transit_weight}
 use Rattle.rwsem_wake.specs.Grants.{with_changes}
 use Rattle.rwsem_wake.specs.GrantQueues.{HoldsBy}
 use Rattle.rwsem_wake.proofs.Holding.{shared-holds}
-use Rattle.rwsem_slow.specs.CountHosting.{sem-count, sem-counted}
+use Rattle.rwsem_slow.specs.Laws.CountHosting.{sem-count, sem-counted}
 use Rattle.rwsem_wake.specs.RwSemPlaces.{line_of}
 use Rattle.rwsem_slow.specs.Queued.{AppendedBy, EntersLock, IsInTransit, KeepsLine, Shares}
-use Rattle.rwsem_slow.specs.RwSemLaws.{sem-hints}
+use Rattle.rwsem_slow.specs.Laws.RwSem.{sem-hints}
 use Rattle.rwsem_wake.specs.RwSemViews.{V, count_at, hint_at, with_sem, with_wake, IsDone}
 use Rattle.rwsem_slow.specs.RwSems.{Kept, RwSemMoves, bias_of, biased, count_in, more_in, owes_after}
 use Rattle.rwsem_slow.specs.Stealing.{MaySteal, StealsBy, WentOn, left_by}

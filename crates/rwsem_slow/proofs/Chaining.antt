@@ -7,7 +7,7 @@ use Rattle.word_bits.specs.Objects.{Obj}
 use Rattle.word_bits.specs.Histories.{Plan}
 use Rattle.lock_core.specs.declared.view.Moment.{Moment}
 use Rattle.lock_core.specs.declared.view.Marks.{Marks}
-use Rattle.lock_core.specs.LockedLaws.{move-steps}
+use Rattle.lock_core.specs.Laws.Locked.{move-steps}
 use Rattle.lock_core.specs.ViewParts.{Each}
 use Rattle.lock_core.specs.Pasts.{ChangesOneWord, Instant, Moves, marks_of, Paced, Ran, instant, moment}
 use Rattle.lock_core.specs.Spins.{holds_in}
@@ -16,7 +16,7 @@ use Rattle.wait_list.specs.declared.view.Waiter.{Waiter}
 use Rattle.wait_list.specs.declared.view.Change.{Change}
 use Rattle.wait_list.specs.declared.view.Change.TheVariants.{Stay, Enter, Leave}
 use Rattle.wait_list.specs.Lists.{Allowed, MadeBy as MadeUnderLock, Part, changed, list_part}
-use Rattle.wait_list.specs.ListLaws.{holds-or-not}
+use Rattle.wait_list.specs.Laws.List.{holds-or-not}
 use Rattle.wait_list.proofs.Determining.{kept-same}
 use Rattle.rwsem_wake.specs.declared.duty.SemWake.{SemWake}
 use Rattle.rwsem_wake.specs.declared.view.SemHand.{SemHand}

@@ -12,7 +12,7 @@ use Rattle.lock_core.specs.declared.view.Held.{Held}
 use Rattle.lock_core.specs.declared.view.Moment.{Moment}
 use Rattle.lock_core.specs.SiteHandles.{view_of, task_in, SitsAt, KeepsPast}
 use Rattle.lock_core.specs.Pasts.{FoundAt, GoesOn, IsOwnStep}
-use Rattle.lock_core.specs.SiteRunLaws.{step-by}
+use Rattle.lock_core.specs.Laws.SiteRun.{step-by}
 use Rattle.lock_core.specs.Shown.{Shown, PastGoesOn, shown}
 use Rattle.lock_core.proofs.Within.{found-within}
 use Rattle.rwsem_count.specs.CountTries.{TakesSince}

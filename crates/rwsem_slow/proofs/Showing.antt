@@ -12,7 +12,7 @@ use Rattle.lock_core.specs.Holding.{missed}
 use Rattle.lock_core.specs.Kinds.{semaphore, unavailable}
 use Rattle.lock_core.specs.Locking.{Interrupts, KeepsPlace, Looks, Misses, OnlyTried, SawPending, Sees}
 use Rattle.lock_core.specs.Pasts.{GoesOn, FoundAt, FoundAtStep, IsOwnStep}
-use Rattle.lock_core.specs.SiteRunLaws.{found-at-step}
+use Rattle.lock_core.specs.Laws.SiteRun.{found-at-step}
 use Rattle.lock_core.specs.Shown.{PastGoesOn, Shown, shown}
 use Rattle.lock_core.specs.Signals.{OnlyConsumed}
 use Rattle.lock_core.proofs.Showing.{missed-misses}

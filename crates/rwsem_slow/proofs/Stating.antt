@@ -21,7 +21,7 @@ use Rattle.lock_core.proofs.HandLaws.{false-or-true, held-none}
 use Rattle.lock_core.proofs.Stating.{kept-states}
 use Rattle.wait_list.specs.declared.view.Waiter.{Waiter}
 use Rattle.wait_list.specs.Lists.{AreTasks, Part, PartOk, changes_of, first_code, list_part}
-use Rattle.wait_list.specs.ListLaws.{holds-or-not}
+use Rattle.wait_list.specs.Laws.List.{holds-or-not}
 use Rattle.wake_duty.specs.declared.view.WaitState.{WaitState}
 use Rattle.wake_duty.specs.declared.view.WaitState.TheVariants.{Absent, Awake, Tried}
 use Rattle.wake_duty.specs.DutyWakes.{awake, waits, wake_word}
@@ -34,13 +34,13 @@ use Rattle.rwsem_wake.proofs.DutySteps.{late-are}
 use Rattle.rwsem_wake.specs.GrantSemaphores.{Quiet}
 use Rattle.rwsem_wake.proofs.Readers.{only-first, readers-are, readers-once}
 use Rattle.rwsem_wake.proofs.Stating.{sem-states, sem-waiters}
-use Rattle.rwsem_slow.specs.RwSemListLaws.{batch-busy}
-use Rattle.rwsem_slow.specs.WaiterLaws.{has-pass, named-is, view-of}
+use Rattle.rwsem_slow.specs.Laws.RwSemList.{batch-busy}
+use Rattle.rwsem_slow.specs.Laws.Waiter.{has-pass, named-is, view-of}
 use Rattle.rwsem_slow.specs.WakesGo.{WakeStands}
 use Rattle.rwsem_slow.proofs.MarkedCounts.{same-wakes}
 use Rattle.rwsem_wake.specs.RwSemViews.{V, IsDone, list_of, seen}
 use Rattle.rwsem_slow.specs.RwSems.{Kept, RwSemKept, count_in, duty_seen, grants_in, marks_in, standing, wake_words}
-use Rattle.rwsem_slow.specs.RwSemLaws.{few-named}
+use Rattle.rwsem_slow.specs.Laws.RwSem.{few-named}
 use Rattle.rwsem_slow.specs.RwSemStated.{HasWaitLock, IsQueued, IsBeingWoken, IsRwSemThen, SomebodyKeepsOut, SomebodyOwes, WakesMarked, stance}
 
 -- who doesn't wait has no wait_state

@@ -36,16 +36,16 @@ use Rattle.lock_core.proofs.Sitting.{sits-on}
 use Rattle.lock_core.proofs.Steps.{chooses}
 use Rattle.rwsem_count.specs.declared.view.Bias.TheVariants.{Clear}
 use Rattle.rwsem_count.specs.Counts.{CountKept, CountMove, CountPart, based, count_part, part}
-use Rattle.rwsem_count.specs.CountLaws.{count-writes}
+use Rattle.rwsem_count.specs.Laws.Count.{count-writes}
 use Rattle.rwsem_count.specs.CountTries.{MissesSince}
 use Rattle.rwsem_count.proofs.Counting.{alone-parts, held-parts, its-plan}
 use Rattle.rwsem_count.proofs.Sitting.{sits-missed}
 use Rattle.rwsem_wake.specs.declared.view.SemHand.{SemHand}
 use Rattle.rwsem_wake.specs.SemParts.{apart_hand, transit_weight}
 use Rattle.rwsem_wake.specs.declared.view.RwSemHand.{RwSemHand}
-use Rattle.rwsem_slow.specs.CountHosting.{sem-count, sem-counted}
+use Rattle.rwsem_slow.specs.Laws.CountHosting.{sem-count, sem-counted}
 use Rattle.rwsem_wake.specs.RwSemPlaces.{line_of}
-use Rattle.rwsem_slow.specs.RwSemLaws.{sem-looks}
+use Rattle.rwsem_slow.specs.Laws.RwSem.{sem-looks}
 use Rattle.rwsem_wake.specs.RwSemViews.{V, count_at}
 use Rattle.rwsem_slow.specs.RwSems.{Kept, RwSemMoves, bias_of, biased, count_in, more_in}
 use Rattle.rwsem_slow.specs.Spinning.{IsUnlocked, LookedUnqueued, SawUnqueued, SeenUnqueued, TakenUnqueued}
@@ -112,11 +112,12 @@ module _ {Call : Type 0} (o : Obj Call) (size : ℕ) (k : Plan) where
       ))
       (λ ws vs h at not _. let s = saw-there me ws vs id h at numbered out apart in (s.0, s.1, s.2, ((λ is. absurd (not is)), λ _. s.3)))
 
--- the pass goes on with its seat
-pub sits-unqueued : (k : Plan) (table seat seat' : TableId) (me me' : Me (Unit {0}) (Seen RwSemHand)) (face face' : Face) (word : ℕ) → SeenUnqueued (unseen me) word (unseen me') → seat' ≡ seat → face' ≡ face → Sits k table seat me face → Sits k table seat' me' face'
-sits-unqueued k table seat seat' me me' face face' word told same says r = unlocked-or-not word
-    (λ free. let turn = told.1 free in sits-on k table seat seat' me me' face face' same turn.1 (ap (λ (v : V). v.hand) turn.0) (let n = ap (λ (v : V). v.steps) turn.0 in omega (arith, n)) says r)
-    (λ shut. let turn = told.2 shut in sits-missed k table seat seat' me me' face face' word (me.0.view.steps + 1) (me.0.view.steps + 1) me.0.view.ext turn.0 (omega arith) told.0 same turn.1 says r)
+module _ {k : Plan} {table seat seat' : TableId} {me me' : Me (Unit {0}) (Seen RwSemHand)} {face face' : Face} where
+  -- the pass goes on with its seat
+  pub sits-unqueued : (word : ℕ) → SeenUnqueued (unseen me) word (unseen me') → seat' ≡ seat → face' ≡ face → Sits k table seat me face → Sits k table seat' me' face'
+  sits-unqueued word told same says r = unlocked-or-not word
+      (λ free. let turn = told.1 free in sits-on same turn.1 (ap (λ (v : V). v.hand) turn.0) (let n = ap (λ (v : V). v.steps) turn.0 in omega (arith, n)) says r)
+      (λ shut. let turn = told.2 shut in sits-missed word (me.0.view.steps + 1) (me.0.view.steps + 1) me.0.view.ext turn.0 (omega arith) told.0 same turn.1 says r)
 
 -- what a step tells of the word that a try saw
 pub saw-unqueued : (me me' : Me (Unit {0}) V) (n : ℕ) → SeenUnqueued me n me' → SawUnqueued me.0 n me'.0

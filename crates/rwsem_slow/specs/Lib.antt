@@ -2,7 +2,6 @@ pub mod RwSemHandles
 pub mod RwSemStated
 pub mod RwSemStanding
 pub mod Picking
-pub mod RwSemSiteLaws
 pub mod RwSemLocks
 pub mod RwSemLockLaws
 pub mod Releasing
@@ -15,12 +14,5 @@ pub mod Spinning
 pub mod RwSemOpening
 pub mod WakesGo
 pub mod RwSems
-pub mod WakesGoLaws
-pub mod ListSteps
-pub mod DutyRule
-pub mod WaiterLaws
-pub mod RwSemLaws
-pub mod SleepLaws
-pub mod RwSemListLaws
-pub mod CountHosting
 pub mod LostWakes
+pub mod Laws

@@ -22,7 +22,9 @@ HasTransit m ps = (id : ℕ) × (h : Hand) × (p : SemPart) × (get_elem? m.hand
 abbrev pub HasReserve : Moment → List SemPart → Type 0
 HasReserve m ps = (id : ℕ) × (p : SemPart) × (get_elem? ps id ≡ some p) × (reserve_of p ≡ 1) × (kept_of p ≡ 1) × HasWaitLock id m
 
--- Where nobody writes or reads and this is the first waiter, a task owes a wake, or a bias keeps writers out, or that waiter is a writer that needs no further wake. A reader that is granted while it waits needs none either.
+-- Where nobody writes or reads and this is the first waiter, a task owes a wake, or a bias keeps writers out, or that waiter is a writer that needs no further wake. A reader that is granted while it
+-- waits needs none either.
 pub record LosesNoWake (m : Moment) (q : List Waiter) (ps : List SemPart) : Type 0 where
-  pub first : (w : Waiter) (behind : List Waiter) → q ≡ w ∷ behind → total alone_of ps ≡ 0 → readers (grants_in m.words) ps ≡ 0 → SomebodyOwes m ⊎ HasTransit m ps ⊎ HasReserve m ps ⊎ ((w.writer ≡ true) × IsBeingWoken m w.task)
+  pub first : (w : Waiter) (behind : List Waiter) → q ≡ w ∷ behind → total alone_of ps ≡ 0 → readers (grants_in m.words) ps ≡ 0 → SomebodyOwes m ⊎ HasTransit m ps ⊎ HasReserve m ps
+      ⊎ ((w.writer ≡ true) × IsBeingWoken m w.task)
   pub granted : (id t : ℕ) (h : Hand) (p : SemPart) → get_elem? m.hands id ≡ some h → get_elem? ps id ≡ some p → 1 ≤ granted_of (grants_in m.words) p → h.task ≡ Some t → IsBeingWoken m t

@@ -94,7 +94,8 @@ Drowses v u = (n : ℕ) × (u ≡ record v { steps = v.steps + 1; ext = after_sw
 abbrev pub SeesUnmarked : V → V → Type 0
 SeesUnmarked v u = u ≡ record v { steps = u.steps; ext = record v.ext { sem = record (waiting Writes) { stage = Summing } } }
 
--- What a writer knows of the first waiter's mark, before it tries a count that it saw. It has loaded the mark where its answer depends on it: where another is first, nobody holds and a handoff is asked for.
+-- What a writer knows of the first waiter's mark, before it tries a count that it saw. It has loaded the mark where its answer depends on it: where another is first, nobody holds and a handoff is
+-- asked for.
 abbrev pub KnowsMark : (me first count : ℕ) → (marked : Bool) → V → V → Type 0
 KnowsMark me first count true v u = Tries v u × HasTried wait_state_of u
 KnowsMark me first count false v u = (Stays v u × ((me ≡ first) ⊎ IsLocked count ⊎ (HasHandoff count → ⊥))) ⊎ (SeesUnmarked v u × (IsLocked count → ⊥))
@@ -106,7 +107,12 @@ pub record HasTaken {Call : Type 0} (o : Obj Call) (k : Plan) (v u : V) : Type 0
   pub learns : Learns o k v.hand known log
   pub later : v.steps ≤ u.steps
   pub list : KnowsList u
-  pub is : u ≡ record v { hand = took v.hand Alone known log; steps = u.steps; ext = record { list = u.ext.list; sem = record (waiting Writes) { stage = Took }; appends = v.ext.appends; wake = u.ext.wake } }
+  pub is : u ≡ record v {
+    hand = took v.hand Alone known log;
+    steps = u.steps;
+    ext =
+        record { list = u.ext.list; sem = record (waiting Writes) { stage = Took }; appends = v.ext.appends; wake = u.ext.wake };
+  }
   pub waits : KeepsWaiting v.ext.wake u.ext.wake
 
 -- what a call knows of its pass beyond the hand and what it does in line: no count of its steps falls, and it was the front of no spin queue and has not appended itself

@@ -15,7 +15,8 @@ pub record WentThrough (v u : V) : Type 0 where
 abbrev pub TurnsHold : Held → (step n : ℕ) → Shown → Shown → Type 0
 TurnsHold held step n v u = (v.steps < step) × (step ≤ u.steps) × ((f : FindsAtStep step count_at n v u) × (f.by.hand.held ≡ held)) × ((s : ℕ) → v.steps < s → s < step → LeavesHold s v.hand.held v u)
 
--- The step of the call that left the pass with this hold took so much from the count, and added so much. The call goes through the wait lock once where the count that this left has waiters to be woken, and else not at all.
+-- The step of the call that left the pass with this hold took so much from the count, and added so much. The call goes through the wait lock once where the count that this left has waiters to be
+-- woken, and else not at all.
 pub record LeavesCount (wakes : ℕ → Type 0) (held : Held) (less more : ℕ) (v u : Shown) : Type 0 where
   pub found : (step n : ℕ) × TurnsHold held step n v u × (u.hand.freed + less ≡ n + more)
   pub woken : wakes u.hand.freed → u.spin.entries ≡ v.spin.entries + 1

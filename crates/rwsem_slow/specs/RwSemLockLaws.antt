@@ -2,7 +2,7 @@
 use Rattle.word_bits.specs.Objects.{Obj}
 use Rattle.lock_core.specs.Shown.{Stands}
 use Rattle.lock_core.specs.Sitting.{SitsIdle}
-use Rattle.sleep_lock.specs.LockLaws.{site-stands}
+use Rattle.sleep_lock.specs.Laws.Lock.{site-stands}
 use Rattle.rwsem_wake.specs.RwSemPlaces.{line_of}
 use Rattle.rwsem_slow.specs.declared.calls.RwSem.{RwSem}
 use Rattle.rwsem_slow.specs.declared.calls.RwPass.{RwPass}

@@ -80,8 +80,11 @@ pub record AreReaders (grants : List ℕ) (ps : List SemPart) : Type 0 where
 abbrev pub HasWaitLock : ℕ → Moment → Type 0
 HasWaitLock id m = (s : SpinHand) × (get_elem? m.spins id ≡ some s) × (holds_in s ≡ 1)
 
--- While this is the list, and these are the parts of the passes. The list's words state it while the wait lock is free, and each waiter has a pass. The count states whether a task writes, which then is alone, how many read, which biases are in it, and, while the wait lock is free, that tasks wait. Then the first waiter alone may be marked, and HANDOFF is set where it is. Who is about something, has reserved a bias, or has tasks of a batch still to grant, has the wait lock; whose bias is in transit holds nothing, and has a number.
--- Where nobody writes or reads and tasks wait, a pass owes a wake, or a bias keeps writers out, or the first waiter is a writer that is awakened. While a bias stands that came under a writer, a task writes, or a pass owes a wake. A reader that is granted while it waits is awakened. A pass without a number owes no wake, has chosen nobody and waits for nothing.
+-- While this is the list, and these are the parts of the passes. The list's words state it while the wait lock is free, and each waiter has a pass. The count states whether a task writes, which then
+-- is alone, how many read, which biases are in it, and, while the wait lock is free, that tasks wait. Then the first waiter alone may be marked, and HANDOFF is set where it is. Who is about
+-- something, has reserved a bias, or has tasks of a batch still to grant, has the wait lock; whose bias is in transit holds nothing, and has a number.
+-- Where nobody writes or reads and tasks wait, a pass owes a wake, or a bias keeps writers out, or the first waiter is a writer that is awakened. While a bias stands that came under a writer, a task
+-- writes, or a pass owes a wake. A reader that is granted while it waits is awakened. A pass without a number owes no wake, has chosen nobody and waits for nothing.
 pub record IsQueued (m : Moment) (q : List Waiter) (ps : List SemPart) : Type 0 where
   pub parts : AreParts m ps
   pub sound : IsList q
@@ -94,7 +97,8 @@ pub record IsQueued (m : Moment) (q : List Waiter) (ps : List SemPart) : Type 0 
   pub marked : IsWaitLockFree m.spins → OnlyFirst (count_in m.words / 4 % 2) q (marks_in m.words)
   pub locked : (id : ℕ) (p : SemPart) → get_elem? ps id ≡ some p → 0 < busy_of p + reserve_of p + rest_of p → HasWaitLock id m
   pub apart : (id : ℕ) (p : SemPart) → get_elem? ps id ≡ some p → transit_of p ≡ 1 → (p.held ≡ No) × (p.task ≢ None)
-  pub first : (w : Waiter) (behind : List Waiter) → q ≡ w ∷ behind → total alone_of ps ≡ 0 → readers (grants_in m.words) ps ≡ 0 → SomebodyOwes m ⊎ SomebodyKeepsOut ps ⊎ ((w.writer ≡ true) × IsBeingWoken m w.task)
+  pub first : (w : Waiter) (behind : List Waiter) → q ≡ w ∷ behind → total alone_of ps ≡ 0 → readers (grants_in m.words) ps ≡ 0 → SomebodyOwes m ⊎ SomebodyKeepsOut ps
+      ⊎ ((w.writer ≡ true) × IsBeingWoken m w.task)
   pub late : (id : ℕ) (p : SemPart) → get_elem? ps id ≡ some p → 1 ≤ overdue_of p → (1 ≤ total alone_of ps) ⊎ SomebodyOwes m
   pub unnamed : (id : ℕ) (h : Hand) (b : SemWake) → get_elem? m.hands id ≡ some h → h.task ≡ None → WakesMarked id b m → IsDone b
   pub granted : (id : ℕ) (h : Hand) (p : SemPart) → get_elem? m.hands id ≡ some h → get_elem? ps id ≡ some p → 1 ≤ granted_of (grants_in m.words) p → (t : ℕ) → h.task ≡ Some t → IsBeingWoken m t
@@ -107,18 +111,24 @@ IsRwSemThen o size k m = IsSiteThen o shut size k m × ((q : List Waiter) × (ps
 abbrev pub HasNoBatch : ℕ → List SemPart → Type 0
 HasNoBatch id ps = (p : SemPart) × (get_elem? ps id ≡ some p) × (p.sem.rest ≡ [])
 
--- A change of this list is made under the wait lock by the pass of this number, hand and part. A waiter enters by itself, holds nothing, and has no batch under way. It leaves by itself, again with no batch under way, or as the next of the batch of the pass, behind which it then stands. The second parts are those behind the step.
+-- A change of this list is made under the wait lock by the pass of this number, hand and part. A waiter enters by itself, holds nothing, and has no batch under way. It leaves by itself, again with no
+-- batch under way, or as the next of the batch of the pass, behind which it then stands. The second parts are those behind the step.
 abbrev pub MadeBy : Change → ℕ → Hand → List SemPart → List SemPart → List Waiter → Moment → Type 0
 MadeBy Stay id h ps ps' q m = Unit {0}
 MadeBy (Enter w) id h ps ps' q m = HasWaitLock id m × (h.task ≡ Some w.task) × (h.held ≡ No) × HasNoBatch id ps
-MadeBy (Leave t) id h ps ps' q m = HasWaitLock id m × (((h.task ≡ Some t) × HasNoBatch id ps) ⊎ ((p p' : SemPart) × (get_elem? ps id ≡ some p) × (get_elem? ps' id ≡ some p') × Picks p q t × (p'.sem.rest ≡ p.sem.rest ++ t ∷ [])))
+MadeBy (Leave t) id h ps ps' q m = HasWaitLock id m × (((h.task ≡ Some t) × HasNoBatch id ps)
+    ⊎ ((p p' : SemPart) × (get_elem? ps id ≡ some p) × (get_elem? ps' id ≡ some p') × Picks p q t × (p'.sem.rest ≡ p.sem.rest ++ t ∷ [])))
 
 -- One step of one pass, made while this was the list and these the parts of the passes.
 -- The list changes by one append or one removal, which keeps the others in order. Each append is counted by the pass that enters.
--- At any time the writer's bit comes only where nobody is counted. While the first waiter is marked and HANDOFF is set, it comes by that waiter alone, and a task becomes a reader only by a bias whose addition saw no HANDOFF, or by a downgrade. A bias keeps the count that its addition found. At any time a task becomes a reader by a step of its own pass, which has no batch under way, or in a waker's whole batch, and it is one until its own pass ends its shared hold.
--- HANDOFF is set by a waker with a reserved bias where the first waiter is marked, or by a writer of the list, which is to mark that waiter from then on. HANDOFF stays until a writer takes, a waker puts a batch of some readers into the count, or nobody waits. A mark is set by one of these, and is the first waiter's; it goes by that waiter's own pass, or by a waker whose batch has it next.
+-- At any time the writer's bit comes only where nobody is counted. While the first waiter is marked and HANDOFF is set, it comes by that waiter alone, and a task becomes a reader only by a bias whose
+-- addition saw no HANDOFF, or by a downgrade. A bias keeps the count that its addition found. At any time a task becomes a reader by a step of its own pass, which has no batch under way, or in a
+-- waker's whole batch, and it is one until its own pass ends its shared hold.
+-- HANDOFF is set by a waker with a reserved bias where the first waiter is marked, or by a writer of the list, which is to mark that waiter from then on. HANDOFF stays until a writer takes, a waker
+-- puts a batch of some readers into the count, or nobody waits. A mark is set by one of these, and is the first waiter's; it goes by that waiter's own pass, or by a waker whose batch has it next.
 -- A batch grows by the readers that its waker picks, and is granted in this order once it is in the count; no other step clears a grant word.
--- Who is about something, before its step or behind it, has the wait lock. Who ends or downgrades a hold keeps the count that its step left. Whose failed try is counted waits for nothing, and has no bias in the count.
+-- Who is about something, before its step or behind it, has the wait lock. Who ends or downgrades a hold keeps the count that its step left. Whose failed try is counted waits for nothing, and has no
+-- bias in the count.
 -- What the pass has of wakes, and the wake words, go as `WakesGo` says.
 pub record IsRwSemStep (k : Plan) (x : Moment) (q : List Waiter) (ps : List SemPart) (y : Moment) (q' : List Waiter) (ps' : List SemPart) : Type 0 where
   pub by : IsSiteStep k count_at x y
@@ -129,10 +139,13 @@ pub record IsRwSemStep (k : Plan) (x : Moment) (q : List Waiter) (ps : List SemP
   pub hands : KeepsHandoff by.id (count_in x.words) q (marks_in x.words) (grants_in x.words) ps (count_in y.words) (marks_in y.words) (grants_in y.words) ps'
   pub locked : (p p' : SemPart) → get_elem? ps by.id ≡ some p → get_elem? ps' by.id ≡ some p' → 0 < busy_of p + busy_of p' → HasWaitLock by.id x
   pub freed : KeepsCount by.before by.after (count_in y.words)
-  pub appends : (s : SemHand) (appends : ℕ) (b : SemWake) → get_elem? x.marks by.id ≡ some (stance s appends b) → (s' : SemHand) × (b' : SemWake) × (get_elem? y.marks by.id ≡ some (stance s' (appends + entered change) b'))
+  pub appends : (s : SemHand) (appends : ℕ) (b : SemWake) → get_elem? x.marks by.id ≡ some (stance s appends b) → (s' : SemHand) × (b' : SemWake)
+      × (get_elem? y.marks by.id ≡ some (stance s' (appends + entered change) b'))
   pub missed : by.after.misses ≢ by.before.misses → (p : SemPart) × (get_elem? ps by.id ≡ some p) × (p.sem.wait ≡ Apart) × (p.sem.bias ≡ Clear)
-  pub wakes : (p p' : SemPart) (appends : ℕ) (b : SemWake) → get_elem? ps by.id ≡ some p → get_elem? ps' by.id ≡ some p' → get_elem? x.marks by.id ≡ some (stance p.sem appends b) → (b' : SemWake) × (get_elem? y.marks by.id ≡ some (stance p'.sem (appends + entered change) b'))
-      × ((spin : SpinHand) × (get_elem? x.spins by.id ≡ some spin) × WakesGo (count_in x.words) (count_in y.words) q change (grants_in x.words) (wake_words x.words) (wake_words y.words) (holds_in spin) p p' (wake_stands b) (wake_stands b'))
+  pub wakes : (p p' : SemPart) (appends : ℕ) (b : SemWake) → get_elem? ps by.id ≡ some p → get_elem? ps' by.id ≡ some p' → get_elem? x.marks by.id ≡ some (stance p.sem appends b) → (b' : SemWake)
+      × (get_elem? y.marks by.id ≡ some (stance p'.sem (appends + entered change) b'))
+      × ((spin : SpinHand) × (get_elem? x.spins by.id ≡ some spin) × WakesGo (count_in x.words) (count_in y.words) q change (grants_in x.words) (wake_words x.words) (wake_words y.words)
+      (holds_in spin) p p' (wake_stands b) (wake_stands b'))
 
 -- the last of these moments, which stands first, has this list and these parts, and has come to be by such steps from that of the first
 abbrev pub HasBecome : Plan → List Moment → List Waiter → List SemPart → Type 0
@@ -140,7 +153,8 @@ HasBecome k [] q ps = ⊥
 HasBecome k (m ∷ []) q ps = IsQueued m q ps
 HasBecome k (m ∷ before ∷ past) q ps = IsQueued m q ps × ((old : List Waiter) × (were : List SemPart) × HasBecome k (before ∷ past) old were × IsRwSemStep k before old were m q ps)
 
--- The last moment of its past is that of its own last step. It marks the pass at the seat of that step as waiting for nothing and without a bias in the count, as having appended itself as often as it says, and as having no wake to do.
+-- The last moment of its past is that of its own last step. It marks the pass at the seat of that step as waiting for nothing and without a bias in the count, as having appended itself as often as it
+-- says, and as having no wake to do.
 pub record IsOutOfLine (v : Shown) : Type 0 where
   pub own : IsLatestStep v
   pub wake : SemWake

@@ -166,7 +166,8 @@ entered Stay = 0
 entered (Enter w) = 1
 entered (Leave t) = 0
 
--- Who changes the list. A waiter enters by itself, holds nothing, and has no batch under way. It leaves by itself, again with no batch under way, or as the next of a waker's batch, behind which it then stands. `rest` is the batch of the pass behind the step.
+-- Who changes the list. A waiter enters by itself, holds nothing, and has no batch under way. It leaves by itself, again with no batch under way, or as the next of a waker's batch, behind which it
+-- then stands. `rest` is the batch of the pass behind the step.
 abbrev pub IsMadeBy : ℕ → List V → (rest : List ℕ) → Change → List Waiter → Type 0
 IsMadeBy id vs rest Stay q = Unit {0}
 IsMadeBy id vs rest (Enter w) q = (v : V) × (get_elem? vs id ≡ some v) × (v.hand.task ≡ Some w.task) × (v.hand.held ≡ No) × (v.ext.sem.rest ≡ [])
@@ -180,7 +181,11 @@ KeepsCount h g word = h.held ≢ No → g.held ≢ h.held → g.freed ≡ word
 abbrev pub MayMiss : V → Type 0
 MayMiss v = (v.ext.sem.wait ≡ Apart) × (v.ext.sem.bias ≡ Clear)
 
--- What a step may do: all that each step of a site, of a spin lock and of a list does. A waiter enters by itself, and leaves by itself or in a waker's batch. While the first waiter is marked and HANDOFF is set, nobody but it writes, and who reads had a bias since before, or held alone. At any time who reads comes to it by itself, with no batch under way, or in a whole batch, and does so until it ends its hold. A waker or a writer of the list asks for a handoff, and marks the first waiter. A batch is granted in the order in which it was picked. Who ends or downgrades a hold keeps the count that it left. Who is at a stage has the wait lock. An append is counted by the pass that enters, and a failed try by one that waits for nothing and has no bias in the count. `WakesGo` says what becomes of wakes.
+-- What a step may do: all that each step of a site, of a spin lock and of a list does. A waiter enters by itself, and leaves by itself or in a waker's batch. While the first waiter is marked and
+-- HANDOFF is set, nobody but it writes, and who reads had a bias since before, or held alone. At any time who reads comes to it by itself, with no batch under way, or in a whole batch, and does so
+-- until it ends its hold. A waker or a writer of the list asks for a handoff, and marks the first waiter. A batch is granted in the order in which it was picked. Who ends or downgrades a hold keeps
+-- the count that it left. Who is at a stage has the wait lock. An append is counted by the pass that enters, and a failed try by one that waits for nothing and has no bias in the count. `WakesGo`
+-- says what becomes of wakes.
 pub record RwSemMoves (k : Plan) (id : ℕ) (ws : List ℕ) (vs : List V) (us : List ℕ) (vs' : List V) : Type 0 where
   pub site : SiteMove id (count_in ws) (site k ws) vs (site k us) vs'
   pub spin : SpinMoves id (spin_words ws) (map spin_part vs) (spin_words us) (map spin_part vs')
@@ -191,7 +196,8 @@ pub record RwSemMoves (k : Plan) (id : ℕ) (ws : List ℕ) (vs : List V) (us : 
   pub locked : busy_weight site.after.ext.sem.stage ≤ holds_in site.before.spin
   pub appends : site.after.ext.appends ≡ site.before.ext.appends + entered list.change
   pub missed : site.after.hand.misses ≢ site.before.hand.misses → MayMiss site.before
-  pub wakes : WakesGo (count_in ws) (count_in us) list.list list.change (grants_in ws) (wake_words ws) (wake_words us) (holds_in site.before.spin) (seen site.before) (seen site.after) (wake_stands site.before.ext.wake) (wake_stands site.after.ext.wake)
+  pub wakes : WakesGo (count_in ws) (count_in us) list.list list.change (grants_in ws) (wake_words ws) (wake_words us) (holds_in site.before.spin) (seen site.before) (seen site.after)
+      (wake_stands site.before.ext.wake) (wake_stands site.after.ext.wake)
 
 abbrev pub may_free : V → Type 0
 may_free v = (v.ext.sem.stage ≡ Rest) × (v.ext.list.changes ≡ false)
@@ -219,7 +225,8 @@ biased v h b = record v.ext { sem = record v.ext.sem { bias = b }; wake = record
 
 -- a pass that waits for nothing, and has no batch under way, may change how it holds and its bias: it has one of them at most, and reserves none; a bias in transit goes only for a shared hold
 abbrev pub may_count : V → CountPart → Type 0
-may_count v p = (v.ext.sem.wait ≡ Apart) × (held_weight p.held + (early_weight p.bias + late_weight p.bias) ≤ 1) × (reserve_weight p.bias ≡ 0) × (v.ext.sem.rest ≡ []) × (v.ext.sem.stage ≡ Rest) × (v.ext.wake.owing ≡ false) × (transit_weight v.ext.sem.bias ≤ shared_weight p.held + transit_weight p.bias)
+may_count v p = (v.ext.sem.wait ≡ Apart) × (held_weight p.held + (early_weight p.bias + late_weight p.bias) ≤ 1) × (reserve_weight p.bias ≡ 0) × (v.ext.sem.rest ≡ []) × (v.ext.sem.stage ≡ Rest)
+    × (v.ext.wake.owing ≡ false) × (transit_weight v.ext.sem.bias ≤ shared_weight p.held + transit_weight p.bias)
 
 -- any count may stand there
 abbrev pub any_count : ℕ → Type 0

@@ -15,7 +15,8 @@ CountsReading Fast sleeps sleeps' rescheds rescheds' v u = (sleeps' ≡ sleeps) 
 CountsReading Spun sleeps sleeps' rescheds rescheds' v u = (sleeps' ≡ sleeps) × (rescheds' ≡ rescheds)
 CountsReading Slept sleeps sleeps' rescheds rescheds' v u = SleepsBetween v.steps u.steps sleeps sleeps' × (rescheds' ≡ rescheds)
 
--- What a call that writes counted on its CPU: nothing by its first try, and no sleep while it spun. If it appended itself, it took the wait lock once, and once more behind each turn in which it slept or was woken before.
+-- What a call that writes counted on its CPU: nothing by its first try, and no sleep while it spun. If it appended itself, it took the wait lock once, and once more behind each turn in which it slept
+-- or was woken before.
 abbrev pub CountsWriting : How → (sleeps sleeps' rescheds rescheds' : ℕ) → Shown → Shown → Type 0
 CountsWriting Fast sleeps sleeps' rescheds rescheds' v u = (sleeps' ≡ sleeps) × (rescheds' ≡ rescheds)
 CountsWriting Spun sleeps sleeps' rescheds rescheds' v u = (sleeps' ≡ sleeps) × (rescheds ≤ rescheds')

@@ -30,10 +30,12 @@ MaySteal left hint = lets_in semaphore left × (IsShared left hint → ⊥)
 
 -- a reader whose bias is in the count looked at the owner hint, and holds by its bias where it may
 abbrev pub StealsBy : {Call : Type 0} → Obj Call → Sat RwSemHand → ℕ → Sat RwSemHand → Type 0
-StealsBy o m n m' = (MaySteal (left_by m.0.ext.sem.bias) n → GetsSem with_sem with_wake o Shared (record m.0.ext.sem { bias = Clear }) m.0.ext.wake m m') × ((MaySteal (left_by m.0.ext.sem.bias) n → ⊥) → Turns m (ticked m.0) m')
+StealsBy o m n m' = (MaySteal (left_by m.0.ext.sem.bias) n → GetsSem with_sem with_wake o Shared (record m.0.ext.sem { bias = Clear }) m.0.ext.wake m m')
+    × ((MaySteal (left_by m.0.ext.sem.bias) n → ⊥) → Turns m (ticked m.0) m')
 
 -- How a reader went on whose addition left this count, and didn't let it in at once: by way of the wait lock, with the list or without, or by its bias, by which its next step left it holding.
 abbrev pub WentOn : (left : ℕ) → How → Shown → Shown → Type 0
 WentOn left Fast v u = ⊥
-WentOn left Spun v u = ((v.spin.entries < u.spin.entries) ⊎ (lets_in semaphore left × (u.hand.saw ≡ v.hand.saw) × LeavesHold (v.steps + 1) Shared v u)) × (u.fronts ≡ v.fronts) × (u.hand.misses ≡ v.hand.misses) × (u.line.appends ≡ v.line.appends)
+WentOn left Spun v u = ((v.spin.entries < u.spin.entries) ⊎ (lets_in semaphore left × (u.hand.saw ≡ v.hand.saw) × LeavesHold (v.steps + 1) Shared v u)) × (u.fronts ≡ v.fronts)
+    × (u.hand.misses ≡ v.hand.misses) × (u.line.appends ≡ v.line.appends)
 WentOn left Slept v u = (v.spin.entries < u.spin.entries) × (u.fronts ≡ v.fronts) × (u.hand.misses ≡ v.hand.misses) × (u.line.appends ≡ v.line.appends + 1)

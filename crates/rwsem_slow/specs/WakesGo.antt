@@ -25,7 +25,8 @@ awake_bit Absent = 0
 awake_bit Awake = 1
 awake_bit (Tried n) = 0
 
--- what a moment keeps of what a pass has of wakes: whether it owes a wake, whom it has chosen, whether it waits, whether it is awake, how many wake words it has set, and how often it has fallen asleep
+-- what a moment keeps of what a pass has of wakes: whether it owes a wake, whom it has chosen, whether it waits, whether it is awake, how many wake words it has set, and how often it has fallen
+-- asleep
 pub record WakeStands : Type 0 where
   pub owing : Bool
   pub chosen : List ℕ
@@ -37,19 +38,22 @@ pub record WakeStands : Type 0 where
 abbrev pub wake_stands : SemWake → WakeStands
 wake_stands b = record { owing = b.owing; chosen = b.chosen; queued = waits b.wait_state; awake = awake_bit b.wait_state; wakes = b.wakes; dozes = b.dozes }
 
--- In what follows the step goes from the count `n` to `n'`. `q` is the list before it, `c` its change. `locked` is 1 where the pass had the wait lock. `p` and `s` stand before it, `p'` and `s'` behind it.
+-- In what follows the step goes from the count `n` to `n'`. `q` is the list before it, `c` its change. `locked` is 1 where the pass had the wait lock. `p` and `s` stand before it, `p'` and `s'`
+-- behind it.
 
 -- it takes back the bias with which its reader queued
 abbrev pub TakesBack : SemPart → SemPart → Type 0
 TakesBack p p' = ((m : ℕ) × (p.sem.bias ≡ Transit m)) × (p'.sem.bias ≡ Clear)
 
--- Who comes to owe. It ends or lowers a hold, and leaves a count that says that tasks wait, and where the hold was shared that nobody else is counted. Or it takes a bias back, and leaves a count with nobody. Or it leaves the list as the first.
+-- Who comes to owe. It ends or lowers a hold, and leaves a count that says that tasks wait, and where the hold was shared that nobody else is counted. Or it takes a bias back, and leaves a count with
+-- nobody. Or it leaves the list as the first.
 abbrev pub OwesBy : (n' : ℕ) → List Waiter → Change → SemPart → SemPart → Type 0
 OwesBy n' q c p p' = ((p.held ≢ No) × (p'.held ≢ p.held) × (n' / 2 % 2 ≡ 1) × (p.held ≡ Shared → is_left n' ≡ true))
     ⊎ (TakesBack p p' × (is_left n' ≡ true))
     ⊎ ((t : ℕ) × (c ≡ Leave t) × (p.task ≡ Some t) × (first_code q ≡ t + 1))
 
--- Who has to owe from then on. It ends or lowers an exclusive hold, and leaves a count that says that tasks wait. Or it ends a shared one, and leaves such a count, with nobody else. Or it takes a bias back and holds nothing, and leaves a count with nobody. Or it leaves the list as the first, and neither holds alone nor is the next of a batch of its own.
+-- Who has to owe from then on. It ends or lowers an exclusive hold, and leaves a count that says that tasks wait. Or it ends a shared one, and leaves such a count, with nobody else. Or it takes a
+-- bias back and holds nothing, and leaves a count with nobody. Or it leaves the list as the first, and neither holds alone nor is the next of a batch of its own.
 abbrev pub MustOwe : (n' : ℕ) → List Waiter → Change → SemPart → SemPart → (s s' : WakeStands) → Type 0
 MustOwe n' q c p p' s s' = ((p.held ≡ Alone) × (p'.held ≢ Alone) × (n' / 2 % 2 ≡ 1))
     ⊎ ((p.held ≡ Shared) × (p'.held ≡ No) × (n' / 2 % 2 ≡ 1) × (is_left n' ≡ true))
@@ -88,14 +92,17 @@ LeavesNothing p s = (p.held ≡ No) × (s.owing ≡ false) × (s.chosen ≡ []) 
 abbrev pub QueuesBy : Change → (grants : List ℕ) → SemPart → SemPart → (s' : WakeStands) → Type 0
 QueuesBy c grants p p' s' = (((w : Waiter) × (c ≡ Enter w)) × (s'.queued ≡ 1)) ⊎ ((((t : ℕ) × (c ≡ Leave t) × (p.task ≡ Some t)) ⊎ HearsBy grants p p') × (s'.queued ≡ 0))
 
--- who may sleep from then on, or waits no more: its task leaves the list; or it is a reader that was granted, and holds by that; or one that isn't granted; or a writer that found a count that isn't free, or isn't the first
+-- who may sleep from then on, or waits no more: its task leaves the list; or it is a reader that was granted, and holds by that; or one that isn't granted; or a writer that found a count that isn't
+-- free, or isn't the first
 abbrev pub TiresBy : (n : ℕ) → List Waiter → Change → (grants : List ℕ) → SemPart → SemPart → Type 0
 TiresBy n q c grants p p' = ((t : ℕ) × (c ≡ Leave t) × (p.task ≡ Some t))
     ⊎ HearsBy grants p p'
     ⊎ ((p.sem.wait ≡ Reads) × (granted_of grants p ≡ 0))
     ⊎ ((p.sem.wait ≡ Writes) × ((is_left n ≡ false) ⊎ ((t : ℕ) → p.task ≡ Some t → first_code q ≢ t + 1)))
 
--- A wake word changes by the pass of its own task, or by one that has chosen it. Nobody owes but by a step that leaves a wake to be done, and who leaves one so owes it; a debt ends by a choice, or because there is nobody to choose. Each choice stands until the wake word of its task is set, which ends it and is counted. Who enters waits until it leaves the list or holds. A task falls asleep only while it waits, isn't to try any more, and leaves nothing undone, and it is to try once it enters, or once it finds its wake word set.
+-- A wake word changes by the pass of its own task, or by one that has chosen it. Nobody owes but by a step that leaves a wake to be done, and who leaves one so owes it; a debt ends by a choice, or
+-- because there is nobody to choose. Each choice stands until the wake word of its task is set, which ends it and is counted. Who enters waits until it leaves the list or holds. A task falls asleep
+-- only while it waits, isn't to try any more, and leaves nothing undone, and it is to try once it enters, or once it finds its wake word set.
 pub record WakesGo (n n' : ℕ) (q : List Waiter) (c : Change) (grants words words' : List ℕ) (locked : ℕ) (p p' : SemPart) (s s' : WakeStands) : Type 0 where
   pub words_go : (t : ℕ) → t < MAX_TASKS → WordGoes words words' p.task locked s.queued s.awake (λ u. 1 ≤ times u s.chosen) t
   pub owes : s.owing ≡ false → s'.owing ≡ true → OwesBy n' q c p p'

@@ -14,7 +14,8 @@ use Rattle.rwsem_wake.specs.RwSemWakes.{SawWriter, kind_at, woken_of}
 use Rattle.rwsem_slow.specs.Leaving.{WakesOn}
 use Rattle.rwsem_slow.specs.Releasing.{TurnsHold}
 
--- These are the tasks that a wake of this kind wakes of a list. A step since found the code of that list's first waiter. Where a reader is first and the wake reserves a bias of its own, its look at the count said whether there was a writer.
+-- These are the tasks that a wake of this kind wakes of a list. A step since found the code of that list's first waiter. Where a reader is first and the wake reserves a bias of its own, its look at
+-- the count said whether there was a writer.
 pub record WakesOf (kind : WakeType) (woken : List ℕ) (v u : Shown) : Type 0 where
   pub was : List Waiter
   pub first : FindsSince list_at (first_code was) v u
@@ -51,11 +52,13 @@ abbrev pub WakesOthers : (wakes wakes' : ℕ) → Shown → Shown → Type 0
 WakesOthers wakes wakes' v u = (FindsItselfFirst v u × (wakes' ≡ wakes))
     ⊎ ((n : ℕ) × FindsSince count_at n v u × (n % 2 ≡ 0 → WakesWaiting (kind_at n) wakes wakes' v u) × (n % 2 ≡ 1 → wakes' ≡ wakes))
 
--- Before the call's step of this number the count was this one and 256 more, less 2 where the reader stood alone in the list. So a reader's bias is gone from it, and in the latter case WAITERS is set.
+-- Before the call's step of this number the count was this one and 256 more, less 2 where the reader stood alone in the list. So a reader's bias is gone from it, and in the latter case WAITERS is
+-- set.
 abbrev pub FindsOneBiasMore : (alone : Bool) → (step left : ℕ) → Shown → Shown → Type 0
 FindsOneBiasMore alone step left v u = (v.steps < step) × (step ≤ u.steps) × (n : ℕ) × FindsAtStep step count_at n v u × (left + 256 ≡ n + 2 * bit alone)
 
--- A reader that queued is to wake these tasks. A step of the call found a count with one bias more than this one. Where this one has no writer, they are those of a wake at it, by what the call found behind that step. Else they are none.
+-- A reader that queued is to wake these tasks. A step of the call found a count with one bias more than this one. Where this one has no writer, they are those of a wake at it, by what the call found
+-- behind that step. Else they are none.
 pub record WakesQueued (alone : Bool) (woken : List ℕ) (v u : Shown) : Type 0 where
   pub step : ℕ
   pub left : ℕ
@@ -63,7 +66,8 @@ pub record WakesQueued (alone : Bool) (woken : List ℕ) (v u : Shown) : Type 0 
   pub others : left % 2 ≡ 0 → WakesOf (kind_at left) woken (behind step v) u
   pub nobody : left % 2 ≡ 1 → woken ≡ []
 
--- A task that leaves the list wakes these of it. A step since found the code of the list's first waiter. Where that is the task itself, a step found the code of the first of the others too, and these are those that a wake of any waiter wakes of the others. Else nobody.
+-- A task that leaves the list wakes these of it. A step since found the code of the list's first waiter. Where that is the task itself, a step found the code of the first of the others too, and these
+-- are those that a wake of any waiter wakes of the others. Else nobody.
 pub record WakesLeft (woken : List ℕ) (v u : Shown) : Type 0 where
   pub task : ℕ
   pub mine : v.hand.task ≡ Some task

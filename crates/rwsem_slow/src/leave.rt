@@ -1,7 +1,7 @@
 //! How a waiter that a signal interrupts leaves the list.
 ghost use Rattle.std.specs.Prelude.{◌≡◌, ◌≢◌, ◌+◌, ◌<◌, ◌≤◌, [], true, false, IsSome, Some, length};
 ghost use Rattle.lock_core.specs.declared.view.Held.TheVariants.{No};
-ghost use Rattle.lock_core.specs.SiteHandles.{plan_of, view_of, hand_in, task_in, held_in, SitsAt, KeepsPast, SaysSame};
+ghost use Rattle.lock_core.specs.SiteHandles.{plan_of, view_of, hand_in, task_in, held_in, SitsAt, KeepsPast, SaysSame, MovesOn};
 ghost use Rattle.lock_core.specs.Records.{bit};
 ghost use Rattle.lock_core.specs.Shown.{FindsSince};
 ghost use Rattle.lock_core.specs.Signals.{HasHeard, OnlyConsumed};
@@ -11,7 +11,7 @@ ghost use Rattle.rwsem_wake.specs.SemParts.{apart_hand, some_of};
 ghost use Rattle.rwsem_wake.specs.Grants.{OnlySem, summing, AreTaskNumbers};
 ghost use Rattle.rwsem_wake.specs.RwSemViews.{leaves_wake, list_at, with_sem};
 ghost use Rattle.rwsem_wake.specs.Removals.{KnowsList};
-ghost use Rattle.rwsem_wake.specs.RwSemPlaces.{AreCounts, IsOutside, MovesOn, dozes_of, seen_of};
+ghost use Rattle.rwsem_wake.specs.RwSemPlaces.{AreCounts, IsOutside, dozes_of, seen_of};
 ghost use Rattle.rwsem_slow.specs.Queued.{Becomes, KeepsLine, LooksAt};
 ghost use Rattle.rwsem_wake.specs.RwSemWakes.{woken_tasks};
 ghost use Rattle.rwsem_slow.specs.Leaving.{HasLeft, IsUnmarked, MayLeave, WakesOn, gone_first};
@@ -54,10 +54,8 @@ fn unmark<O: Object>(site: &Site<SemRule<O>>, pass: &mut Pass<SemRule<O>>, task:
     requires list { KnowsList (view_of pass.old) }
     requires first { first_code (view_of pass.old).ext.list.list ≡ task + 1 }
     requires task { task < length (plan_of site.now) }
-    ensures own { SitsAt site.now pass.new }
-    ensures goes_on { KeepsPast pass.old pass.new }
+    ensures on { MovesOn site.now pass.old pass.new }
     ensures face { SaysSame pass.old pass.new }
-    ensures later { (view_of pass.old).steps ≤ (view_of pass.new).steps }
     ensures kept { OnlySem with_sem (view_of pass.old)
         (summing (view_of pass.old).ext.sem) (view_of pass.new) }
 {

@@ -4,11 +4,11 @@ ghost use Rattle.word_bits.specs.LockWords.{counted};
 ghost use Rattle.lock_core.specs.SpinTables.{one-some, one-eight};
 ghost use Rattle.rwsem_wake.specs.RwSemViews.{count_at, list_at, list_of, saw_first, sem_of, wake_of, with_list, with_sem, with_wake, HasChosen, after_set};
 ghost use Rattle.rwsem_slow.specs.RwSems.{Kept, MayMiss, RwSemKept, RwSemMoves, any_count, bias_of, biased, grants_at, idle, marks_at, may_change, may_count, may_free, more_in, rests, standing, sleep_wait_state, wakes_at, after_swap};
-ghost use Rattle.rwsem_slow.specs.RwSemLaws.{count-inside, count-there, list-inside, list-room, sem-hints, sem-joins-rule, sem-looks, sem-opens-rule, sem-places, sem-sems, sem-site, sem-sites, sem-spin, sem-spins, sem-splits, spin-inside};
-ghost use Rattle.rwsem_slow.specs.WaiterLaws.{few-waiters};
-ghost use Rattle.rwsem_slow.specs.RwSemListLaws.{list-again, list-back, list-over, list-same, may-on, may-pick, may-stay, sem-firsts, sem-list, sem-list-may, sem-lists, sem-queued};
-ghost use Rattle.rwsem_slow.specs.CountHosting.{bias-back, sem-alone, sem-count, sem-counted, sem-words};
-ghost use Rattle.rwsem_slow.specs.SleepLaws.{sem-bits, sem-sets, sem-swaps, wake-inside};
+ghost use Rattle.rwsem_slow.specs.Laws.RwSem.{count-inside, count-there, list-inside, list-room, sem-hints, sem-joins-rule, sem-looks, sem-opens-rule, sem-places, sem-sems, sem-site, sem-sites, sem-spin, sem-spins, sem-splits, spin-inside};
+ghost use Rattle.rwsem_slow.specs.Laws.Waiter.{few-waiters};
+ghost use Rattle.rwsem_slow.specs.Laws.RwSemList.{list-again, list-back, list-over, list-same, may-on, may-pick, may-stay, sem-firsts, sem-list, sem-list-may, sem-lists, sem-queued};
+ghost use Rattle.rwsem_slow.specs.Laws.CountHosting.{bias-back, sem-alone, sem-count, sem-counted, sem-words};
+ghost use Rattle.rwsem_slow.specs.Laws.Sleep.{sem-bits, sem-sets, sem-swaps, wake-inside};
 
 use lock_core::{LOCK_WORDS, ROW_WORDS, SPIN_ROOM, SiteRule, SpinHost};
 use rwsem_count::CountHost;

@@ -1,11 +1,11 @@
 //! How a waiter hears of signals, and falls asleep.
 ghost use Rattle.std.specs.Prelude.{◌≡◌, ◌<◌, true, IfSome, IsSome};
 ghost use Rattle.lock_core.specs.declared.view.Held.TheVariants.{No};
-ghost use Rattle.lock_core.specs.SiteHandles.{view_of, hand_in, task_in, held_in, SitsAt, KeepsPast, SaysSame};
+ghost use Rattle.lock_core.specs.SiteHandles.{view_of, hand_in, task_in, held_in, SitsAt, KeepsPast, SaysSame, MovesOn};
 ghost use Rattle.lock_core.specs.Locking.{SawPending};
 ghost use Rattle.lock_core.specs.Signals.{HasHeard};
 ghost use Rattle.lock_core.specs.Views.{SpinRests};
-ghost use Rattle.rwsem_wake.specs.RwSemPlaces.{AreCounts, MovesOn, dozes_of, seen_of};
+ghost use Rattle.rwsem_wake.specs.RwSemPlaces.{AreCounts, dozes_of, seen_of};
 ghost use Rattle.rwsem_slow.specs.Queued.{Listens, Drowses};
 ghost use Rattle.cpu_task.specs.CpuCounting.{DozesOnce};
 ghost use Rattle.wake_duty.specs.WakeSteps.{HasTried};

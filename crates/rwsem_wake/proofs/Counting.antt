@@ -11,9 +11,9 @@ use Rattle.lock_core.specs.Totals.{total, total-at}
 use Rattle.rwsem_count.specs.declared.view.Bias.{Bias}
 use Rattle.rwsem_count.specs.declared.view.Bias.TheVariants.{Clear, Transit, Reserve}
 use Rattle.rwsem_count.specs.Counts.{CountPart, CountKept, shared_weight, early_weight, late_weight, shared_in, early_in, late_in}
-use Rattle.rwsem_count.specs.CountLaws.{Adds, part-adds}
+use Rattle.rwsem_count.specs.Laws.Count.{Adds, part-adds}
 use Rattle.rwsem_wake.specs.SemParts.{SemPart, part_of}
-use Rattle.rwsem_count.specs.CountLaws as laws
+use Rattle.rwsem_count.specs.Laws.Count as laws
 
 -- a sum over parts is a sum over the whole
 pub total-map : {A B : Type 0} (f : B → ℕ) (g : A → B) (xs : List A) → total f (map g xs) ≡ total (λ x. f (g x)) xs

@@ -15,7 +15,7 @@ use Rattle.wake_duty.specs.declared.view.WaitState.TheVariants.{Absent}
 use Rattle.wake_duty.specs.DutyWakes.{awake, after_failed_try}
 use Rattle.rwsem_wake.specs.declared.duty.SemWake.{SemWake}
 use Rattle.rwsem_wake.specs.SemDuties.{DutyPart, DutyKept, PartOk, alone_of as alone_in_duty, late_of as late_in_duty, owes, answers, attends, chose, wakes_it, times, where_so, recounted, with_wait_state, leaving}
-use Rattle.rwsem_wake.specs.SemDutyLaws.{duty-guards, duty-pays, duty-reserves-late, duty-takes-back, duty-owes, duty-returns, duty-writes, duty-hears, duty-waits, duty-fails, duty-unwaited, duty-grants}
+use Rattle.rwsem_wake.specs.Laws.SemDuty.{duty-guards, duty-pays, duty-reserves-late, duty-takes-back, duty-owes, duty-returns, duty-writes, duty-hears, duty-waits, duty-fails, duty-unwaited, duty-grants}
 use Rattle.rwsem_count.specs.declared.view.Bias.{Bias}
 use Rattle.rwsem_count.specs.declared.view.Bias.TheVariants.{Clear, Transit, Reserve}
 use Rattle.rwsem_count.specs.Counts.{early_weight, late_weight, alone_in, shared_in, early_in, late_in}

@@ -15,7 +15,7 @@ use Rattle.rwsem_wake.specs.SemParts.{SemPart, nobody, apart_hand, busy_of, busy
 use Rattle.rwsem_wake.specs.GrantSemaphores.{pick, now, FlagsOf, FlagsAt, SemPartOk, SemKept, more_of}
 use Rattle.rwsem_wake.proofs.Sums.{of-others}
 use Rattle.rwsem_wake.proofs.Counting.{count-step, part-least}
-use Rattle.rwsem_count.specs.CountLaws.{count-strangers, count-opens}
+use Rattle.rwsem_count.specs.Laws.Count.{count-strangers, count-opens}
 use Rattle.rwsem_wake.proofs.WakeLaws.{sem-moves}
 
 -- a view that waits for nothing may change its number

@@ -31,7 +31,7 @@ use Rattle.wait_list.specs.declared.view.Waiter.{Waiter}
 use Rattle.wait_list.specs.declared.view.ListHand.{ListHand}
 use Rattle.wait_list.specs.declared.words.TheConstants.{LIST_WORDS}
 use Rattle.wait_list.specs.Lists.{Part, ListKept, IsList, Knows, list_part, takes_of}
-use Rattle.wait_list.specs.ListLaws.{list-known}
+use Rattle.wait_list.specs.Laws.List.{list-known}
 use Rattle.rwsem_count.specs.Counts.{CountPart, HandStep, alone_in, shared_in, count_part}
 use Rattle.rwsem_count.proofs.Counting.{held-parts, its-plan}
 use Rattle.rwsem_wake.specs.declared.duty.SemWake.{SemWake}

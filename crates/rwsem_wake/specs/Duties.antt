@@ -191,7 +191,8 @@ TakesAlone v u b w = (u ≡ record v { held = Alone; sem = record v.sem { stage 
 
 -- a granted reader hears so
 abbrev pub HearsGrant : List ℕ → SemPart → SemPart → SemWake → SemWake → Type 0
-HearsGrant grants v u b w = (v.sem.wait ≡ Reads) × (granted_of grants v ≡ 1) × (v.sem.stage ≡ Rest) × (shared_of v ≡ 0) × (alone_of v ≡ 0) × (u ≡ record v { held = Shared; sem = record v.sem { wait = Apart } }) × (b.owing ≡ false) × (w ≡ heard_by b)
+HearsGrant grants v u b w = (v.sem.wait ≡ Reads) × (granted_of grants v ≡ 1) × (v.sem.stage ≡ Rest) × (shared_of v ≡ 0) × (alone_of v ≡ 0)
+    × (u ≡ record v { held = Shared; sem = record v.sem { wait = Apart } }) × (b.owing ≡ false) × (w ≡ heard_by b)
 
 -- why a waiter may sleep: it reads, and isn't granted; or it writes, and somebody holds or is counted as a reader, or it isn't the first
 abbrev pub MayTire : ℕ → List Waiter → List ℕ → List SemPart → SemPart → Type 0
@@ -200,7 +201,8 @@ MayTire n q grants vs v = ((v.sem.wait ≡ Reads) × (granted_of grants v ≡ 0)
 
 -- its try fails
 abbrev pub FailsWaiting : ℕ → List Waiter → List ℕ → List SemPart → SemPart → SemPart → SemWake → SemWake → Type 0
-FailsWaiting n q grants vs v u b w = MayTire n q grants vs v × ((s : Stage) × (u ≡ record v { sem = record v.sem { stage = s } }) × (begun_weight s ≡ 0) × (granting_of u ≡ granting_of v) × ((overdue_of v ≡ 0) ⊎ (waited_weight v.sem.stage ≤ waited_weight s))) × (w ≡ after_failed_try_by b)
+FailsWaiting n q grants vs v u b w = MayTire n q grants vs v × ((s : Stage) × (u ≡ record v { sem = record v.sem { stage = s } }) × (begun_weight s ≡ 0) × (granting_of u ≡ granting_of v)
+    × ((overdue_of v ≡ 0) ⊎ (waited_weight v.sem.stage ≤ waited_weight s))) × (w ≡ after_failed_try_by b)
 
 -- it has left the list empty
 abbrev pub LeavesEmpty : List Waiter → List SemPart → SemPart → SemPart → SemWake → SemWake → Type 0
@@ -208,7 +210,8 @@ LeavesEmpty q vs v u b w = IsOnly vs v × (first_code q ≡ 0) × (v.sem.bias �
 
 -- it clears the grant word of the next of its batch
 abbrev pub GrantsTask : (n n' : ℕ) → List ℕ → List ℕ → SemPart → SemPart → SemWake → SemWake → Type 0
-GrantsTask n n' grants grants' v u b w = (n' ≡ n) × ((t : ℕ) × (ts : List ℕ) × (s : Stage) × (v.sem.rest ≡ t ∷ ts) × (v.sem.stage ≡ Granting) × (grants' ≡ slice_set grants t 0) × (u ≡ record v { sem = record v.sem { rest = ts; stage = s } }) × (granting_of u ≡ length ts) × (begun_weight s ≡ 0)) × (v.sem.bias ≡ Clear) × (w ≡ b)
+GrantsTask n n' grants grants' v u b w = (n' ≡ n) × ((t : ℕ) × (ts : List ℕ) × (s : Stage) × (v.sem.rest ≡ t ∷ ts) × (v.sem.stage ≡ Granting) × (grants' ≡ slice_set grants t 0)
+    × (u ≡ record v { sem = record v.sem { rest = ts; stage = s } }) × (granting_of u ≡ length ts) × (begun_weight s ≡ 0)) × (v.sem.bias ≡ Clear) × (w ≡ b)
 
 -- what a step on one of these words makes of wakes
 abbrev pub WakeGoes : (n : ℕ) → List Waiter → List ℕ → List SemPart → (n' : ℕ) → List ℕ → SemPart → SemPart → SemWake → SemWake → Type 0

@@ -50,7 +50,8 @@ settled s word = if word % 2 == 0 then record s { bias = Clear } else s
 module _ {E : Type 0} (with_sem : E → SemHand → E) (with_wake : E → SemWake → E) where
   -- it holds in this way, has learnt what the lock guards, has this part, and knows this of wakes
   abbrev pub GetsSem : {Call : Type 0} → Obj Call → Held → SemHand → SemWake → Sat E → Sat E → Type 0
-  GetsSem o held s b m m' = (known : List ℕ) × (log : List Entry) × ((k : Plan) → m.0.hand.plan ≡ Some k → Learns o k m.0.hand known log) × Turns m (with_changes with_sem with_wake m.0 (took m.0.hand held known log) s b) m'
+  GetsSem o held s b m m' = (known : List ℕ) × (log : List Entry) × ((k : Plan) → m.0.hand.plan ≡ Some k → Learns o k m.0.hand known log)
+      × Turns m (with_changes with_sem with_wake m.0 (took m.0.hand held known log) s b) m'
 
   -- the same, of the views
   abbrev pub HoldsBy : {Call : Type 0} → Obj Call → Plan → Held → SemHand → SemWake → View E → View E → Type 0
@@ -58,7 +59,8 @@ module _ {E : Type 0} (with_sem : E → SemHand → E) (with_wake : E → SemWak
 
   -- a step came to hold so where the number found says so, and has told this of the number
   abbrev pub HoldsWhere : {Call : Type 0} → Obj Call → Held → (gets : ℕ → Bool) → (does : ℕ → SemHand) → (attends : ℕ → SemWake) → (ℕ → Type 0) → Sat E → ℕ → Sat E → Type 0
-  HoldsWhere o held gets does attends tells m n m' = tells n × (gets n ≡ true → GetsSem o held (does n) (attends n) m m') × (gets n ≡ false → Turns m (with_changes with_sem with_wake m.0 m.0.hand (does n) (attends n)) m')
+  HoldsWhere o held gets does attends tells m n m' = tells n × (gets n ≡ true → GetsSem o held (does n) (attends n) m m')
+      × (gets n ≡ false → Turns m (with_changes with_sem with_wake m.0 m.0.hand (does n) (attends n)) m')
 
 -- the list, where it knows it, isn't empty
 abbrev pub KnowsSome : {E : Type 0} → (E → ListHand) → View E → Type 0

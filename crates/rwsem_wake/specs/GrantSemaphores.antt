@@ -9,7 +9,8 @@ use Rattle.rwsem_count.specs.declared.view.Bias.TheVariants.{Clear}
 use Rattle.rwsem_wake.specs.declared.view.Wait.TheVariants.{Apart}
 use Rattle.rwsem_wake.specs.declared.view.Stage.{Stage}
 use Rattle.rwsem_wake.specs.declared.view.Stage.TheVariants.{Rest, Armed, Joining, First, Marking, Took, Removed, Emptied, Overdue, Marked, Removing, Summing, Counted, Granting}
-use Rattle.rwsem_wake.specs.SemParts.{SemPart, nobody, part_of, shared_of, holds_of, early_of, late_of, reads_of, transit_of, reserve_of, busy_of, granting_of, granted_of, rest_of, reads_at, writes_at, rest_at, granted_at, reader_at, writer_at, reader_of, IsWhole, some_of, marks_sum, first_mark, tasks, own_mark}
+use Rattle.rwsem_wake.specs.SemParts.{SemPart, nobody, part_of, shared_of, holds_of, early_of, late_of, reads_of, transit_of, reserve_of, busy_of, granting_of, granted_of, rest_of, reads_at}
+use Rattle.rwsem_wake.specs.SemParts.{writes_at, rest_at, granted_at, reader_at, writer_at, reader_of, IsWhole, some_of, marks_sum, first_mark, tasks, own_mark}
 
 -- WAITERS is set exactly where somebody waits, and HANDOFF only there. The first waiter alone may be marked, and then HANDOFF is set.
 pub record Quiet (w h : ℕ) (q : List Waiter) (marks : List ℕ) : Type 0 where
@@ -100,7 +101,8 @@ pub record SemPartOk (v : SemPart) : Type 0 where
 abbrev pub more_of : List ℕ → List SemPart → ℕ
 more_of grants vs = total (granted_of grants) vs + total granting_of vs
 
--- The kept rule. `more` of the count are the readers that are granted, and those in the rest of a batch that is in the count. At most one view is at a stage, and what flags, marks and grant words say goes by it. Who waits stands in the list, in the rest of a batch, or is granted: of each task, and of all together.
+-- The kept rule. `more` of the count are the readers that are granted, and those in the rest of a batch that is in the count. At most one view is at a stage, and what flags, marks and grant words say
+-- goes by it. Who waits stands in the list, in the rest of a batch, or is granted: of each task, and of all together.
 pub record SemKept (n : ℕ) (q : List Waiter) (marks grants : List ℕ) (vs : List SemPart) : Type 0 where
   pub count : CountKept n (more_of grants vs) (map part_of vs)
   pub busy : total busy_of vs ≤ 1

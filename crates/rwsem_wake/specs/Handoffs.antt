@@ -34,11 +34,13 @@ IsOfBatch v q t = (0 < here t v.sem.rest) × IsWhole v.sem.rest q
 
 -- a task becomes a reader by a step of its own pass, which has no batch under way, or by a waker's, in whose batch it is
 abbrev pub ComesToRead : ℕ → List Waiter → List ℕ → List SemPart → List ℕ → List SemPart → Type 0
-ComesToRead id q grants vs grants' us = (t : ℕ) → total (reads_as grants t) vs ≡ 0 → 0 < total (reads_as grants' t) us → (v : SemPart) × (get_elem? vs id ≡ some v) × (((v.task ≡ Some t) × (v.sem.rest ≡ [])) ⊎ IsOfBatch v q t)
+ComesToRead id q grants vs grants' us = (t : ℕ) → total (reads_as grants t) vs ≡ 0 → 0 < total (reads_as grants' t) us → (v : SemPart) × (get_elem? vs id ≡ some v)
+    × (((v.task ≡ Some t) × (v.sem.rest ≡ [])) ⊎ IsOfBatch v q t)
 
 -- a task is a reader until a step of its own pass ends its shared hold
 abbrev pub EndsReading : ℕ → List ℕ → List SemPart → List ℕ → List SemPart → Type 0
-EndsReading id grants vs grants' us = (t : ℕ) → 0 < total (reads_as grants t) vs → total (reads_as grants' t) us ≡ 0 → (v : SemPart) × (get_elem? vs id ≡ some v) × (v.task ≡ Some t) × (v.held ≡ Shared)
+EndsReading id grants vs grants' us = (t : ℕ) → 0 < total (reads_as grants t) vs → total (reads_as grants' t) us ≡ 0 → (v : SemPart) × (get_elem? vs id ≡ some v) × (v.task ≡ Some t)
+    × (v.held ≡ Shared)
 
 -- from this part to that a pass may set HANDOFF: a waker that has reserved a bias, where the first waiter is marked, or a writer of the list, which is to mark it next
 abbrev pub MaySetHandoff : List Waiter → List ℕ → SemPart → SemPart → Type 0
@@ -82,20 +84,25 @@ MarksNext q marks' v u = v.sem.stage ≡ Marking → (u.sem.stage ≡ Marking) �
 
 -- a grant word is cleared by a waker whose batch is in the count and has this task next
 abbrev pub GrantsNext : ℕ → List ℕ → List SemPart → List ℕ → List SemPart → Type 0
-GrantsNext id grants vs grants' us = (t : ℕ) → 0 < get_or grants t 0 → get_or grants' t 0 ≡ 0 → (v u : SemPart) × (get_elem? vs id ≡ some v) × (get_elem? us id ≡ some u) × (v.sem.stage ≡ Granting) × (v.sem.rest ≡ t ∷ u.sem.rest)
+GrantsNext id grants vs grants' us = (t : ℕ) → 0 < get_or grants t 0 → get_or grants' t 0 ≡ 0 → (v u : SemPart) × (get_elem? vs id ≡ some v) × (get_elem? us id ≡ some u) × (v.sem.stage ≡ Granting)
+    × (v.sem.rest ≡ t ∷ u.sem.rest)
 
 -- what of a batch isn't granted yet stays, or its next task is granted, or one more is picked behind it
 abbrev pub BatchGoes : List Waiter → List ℕ → SemPart → SemPart → Type 0
-BatchGoes q grants' v u = (u.sem.rest ≡ v.sem.rest) ⊎ ((t : ℕ) × (v.sem.stage ≡ Granting) × (v.sem.rest ≡ t ∷ u.sem.rest) × (get_or grants' t 0 ≡ 0)) ⊎ ((t : ℕ) × (u.sem.rest ≡ v.sem.rest ++ t ∷ []) × Picks v q t)
+BatchGoes q grants' v u = (u.sem.rest ≡ v.sem.rest) ⊎ ((t : ℕ) × (v.sem.stage ≡ Granting) × (v.sem.rest ≡ t ∷ u.sem.rest) × (get_or grants' t 0 ≡ 0))
+    ⊎ ((t : ℕ) × (u.sem.rest ≡ v.sem.rest ++ t ∷ []) × Picks v q t)
 
--- While HANDOFF is set and the first waiter is marked, the writer bit is set by that waiter alone, and a task becomes a reader only by a bias whose addition saw no HANDOFF, or by a downgrade. Who takes clears HANDOFF, and finds nobody counted. A bias keeps the count that its addition found.
+-- While HANDOFF is set and the first waiter is marked, the writer bit is set by that waiter alone, and a task becomes a reader only by a bias whose addition saw no HANDOFF, or by a downgrade. Who
+-- takes clears HANDOFF, and finds nobody counted. A bias keeps the count that its addition found.
 -- At any time a task becomes a reader by itself, with no batch under way, or in a whole batch, and it is one until its own pass ends its shared hold.
--- HANDOFF is set by a waker with a reserved bias where the first waiter is marked, or by a writer of the list. That writer is to mark the first waiter from then on, until that one is marked, and no other step makes a pass so. HANDOFF then stays until it is answered.
+-- HANDOFF is set by a waker with a reserved bias where the first waiter is marked, or by a writer of the list. That writer is to mark the first waiter from then on, until that one is marked, and no
+-- other step makes a pass so. HANDOFF then stays until it is answered.
 -- A mark is set by one of these, and is the first waiter's. It is cleared by its own waiter, or by a waker whose batch has it next.
 -- A batch grows by the readers that its waker picks, and is granted in this order once it is in the count; no other step clears a grant word.
 pub record KeepsHandoff (id n : ℕ) (q : List Waiter) (marks grants : List ℕ) (vs : List SemPart) (n' : ℕ) (marks' grants' : List ℕ) (us : List SemPart) : Type 0 where
   pub writer : n / 4 % 2 ≡ 1 → first_mark marks (tasks q) ≡ 1 → n % 2 ≡ 0 → n' % 2 ≡ 1 → (v : SemPart) × (get_elem? vs id ≡ some v) × IsFirst v.task q
-  pub reader : n / 4 % 2 ≡ 1 → first_mark marks (tasks q) ≡ 1 → (t : ℕ) → total (reads_as grants t) vs ≡ 0 → 0 < total (reads_as grants' t) us → (v : SemPart) × (get_elem? vs id ≡ some v) × (v.task ≡ Some t) × MayRead v
+  pub reader : n / 4 % 2 ≡ 1 → first_mark marks (tasks q) ≡ 1 → (t : ℕ) → total (reads_as grants t) vs ≡ 0 → 0 < total (reads_as grants' t) us → (v : SemPart) × (get_elem? vs id ≡ some v)
+      × (v.task ≡ Some t) × MayRead v
   pub takes : n % 2 ≡ 0 → n' % 2 ≡ 1 → n' / 4 % 2 ≡ 0
   pub lone : n % 2 ≡ 0 → n' % 2 ≡ 1 → n / 256 ≡ 0
   pub comes : ComesToRead id q grants vs grants' us

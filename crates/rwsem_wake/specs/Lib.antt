@@ -13,4 +13,4 @@ pub mod HintPlays
 pub mod Removals
 pub mod RwSemWakes
 pub mod SemDuties
-pub mod SemDutyLaws
+pub mod Laws

@@ -1,9 +1,8 @@
 -- Where a pass stands in a call on a semaphore, and what callers of any lock see of it.
-use Rattle.std.specs.Prelude.{◌≡◌, ℕ, ◌≤◌, false, []}
+use Rattle.std.specs.Prelude.{◌≡◌, ℕ, false, []}
 use Rattle.lock_core.specs.declared.view.Line.{Line}
 use Rattle.lock_core.specs.declared.pass.Pass.{Pass}
-use Rattle.lock_core.specs.declared.site.Site.{Site}
-use Rattle.lock_core.specs.SiteHandles.{view_of, past_of, task_in, SitsAt, KeepsPast}
+use Rattle.lock_core.specs.SiteHandles.{view_of, past_of}
 use Rattle.lock_core.specs.Shown.{Shown, shown}
 use Rattle.wake_duty.specs.declared.view.WaitState.TheVariants.{Absent}
 use Rattle.rwsem_wake.specs.SemParts.{apart_hand}
@@ -41,10 +40,3 @@ module _ {R O C : Type 0} where
   -- a pass of the site, as callers of any lock see it
   abbrev pub seen_of : Pass R O RwSemHand C → Shown
   seen_of pass = shown line_of (view_of pass).fronts (view_of pass) (past_of pass)
-
-  -- it made some steps, and is one of the site's as before
-  pub record MovesOn (site : Site R O RwSemHand C) (old new : Pass R O RwSemHand C) : Type 0 where
-    pub own : SitsAt site new
-    pub task : task_in new ≡ task_in old
-    pub goes_on : KeepsPast old new
-    pub steps : (view_of old).steps ≤ (view_of new).steps

@@ -84,7 +84,8 @@ gone stage s = record s { wait = Apart; stage = stage }
 abbrev pub picked : ℕ → SemHand → SemHand
 picked t s = record s { rest = s.rest ++ t ∷ []; stage = Removing }
 
--- a task leaves a list that is then so long. From these stages it is the pass's own: a writer that took, a waiter that gives up as the first and isn't marked, and one that does so behind the first. From any other it is one of a batch.
+-- a task leaves a list that is then so long. From these stages it is the pass's own: a writer that took, a waiter that gives up as the first and isn't marked, and one that does so behind the first.
+-- From any other it is one of a batch.
 abbrev pub parted : Stage → Wait → (t long : ℕ) → SemHand → SemHand
 parted Took wait t long s = gone Removed s
 parted Summing wait t long s = gone (if long == 0 then Emptied else Rest) s
@@ -111,7 +112,13 @@ parted_wake _ wait t b = chooses_task t b
 abbrev pub with_list : Change → V → ListHand → RwSemHand
 with_list Stay v b = record v.ext { list = b }
 with_list (Enter w) v b = record { list = b; sem = joined w.writer (length b.list) v.ext.sem; appends = v.ext.appends + 1; wake = record v.ext.wake { wait_state = Awake } }
-with_list (Leave t) v b = record { list = b; sem = parted v.ext.sem.stage v.ext.sem.wait t (length b.list) v.ext.sem; appends = v.ext.appends; wake = parted_wake v.ext.sem.stage v.ext.sem.wait t v.ext.wake }
+with_list (Leave t) v b = record {
+  list = b;
+  sem = parted v.ext.sem.stage v.ext.sem.wait t (length b.list) v.ext.sem;
+  appends = v.ext.appends;
+  wake =
+      parted_wake v.ext.sem.stage v.ext.sem.wait t v.ext.wake;
+}
 
 abbrev pub is_clear : Bias → Bool
 is_clear Clear = true

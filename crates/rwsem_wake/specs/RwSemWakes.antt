@@ -33,7 +33,8 @@ pub record IsAtRest (v : V) : Type 0 where
   pub none : v.ext.sem.rest ≡ []
   pub still : v.ext.list.changes ≡ false
 
--- A pass may wake so. One that holds shared and waits for nothing keeps writers out by its hold. Any other, which holds nothing shared, does so by a bias that it reserves. Who wakes readers alone leaves a writer that is first to others, and so isn't to owe a wake.
+-- A pass may wake so. One that holds shared and waits for nothing keeps writers out by its hold. Any other, which holds nothing shared, does so by a bias that it reserves. Who wakes readers alone
+-- leaves a writer that is first to others, and so isn't to owe a wake.
 abbrev pub MayWake : WakeType → V → Type 0
 MayWake ReadOwned v = (shared_weight v.hand.held ≡ 1) × (v.ext.sem.wait ≡ Apart)
 MayWake Readers v = (shared_weight v.hand.held ≡ 0) × (v.ext.wake.owing ≡ false)
@@ -100,7 +101,8 @@ pub record Grants (written : Bool) (v u : V) : Type 0 where
   pub chosen : HasChosenAll (readers_woken written v.ext.list.list) v u
 
 module _ {R O C : Type 0} where
-  -- A wake of this kind has chosen these tasks, is to look for nobody, is at rest, and knows the list that it left. A look of it at the list's head found the code of the waiter that was first. Where a reader was first and the wake reserved a bias of its own, its look at the count said whether there was a writer.
+  -- A wake of this kind has chosen these tasks, is to look for nobody, is at rest, and knows the list that it left. A look of it at the list's head found the code of the waiter that was first. Where
+  -- a reader was first and the wake reserved a bias of its own, its look at the count said whether there was a writer.
   pub record Wakes (kind : WakeType) (woken : List ℕ) (old new : Pass R O RwSemHand C) : Type 0 where
     pub beside : StaysBeside (view_of old) (view_of new)
     pub rests : IsAtRest (view_of new)

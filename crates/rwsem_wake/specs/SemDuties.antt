@@ -16,7 +16,9 @@ use Rattle.rwsem_wake.specs.declared.duty.SemWake.{SemWake}
 abbrev pub no_wake : SemWake
 no_wake = record { owing = false; chosen = []; wait_state = Absent; wakes = 0; dozes = 0 }
 
--- What of a view concerns wakes. `alone` is 1 where it writes. `guards` counts what it has in the reader field by which it keeps writers out: a shared hold, a bias in transit, a bias reserved where there was no writer, and the rest of a batch that is counted. `late` is 1 where it has reserved a bias under a writer. It waits as a writer where `writes` is 1, and as a reader whose grant word is 0 where `granted` is. `rest` are the tasks of its batch that aren't granted yet.
+-- What of a view concerns wakes. `alone` is 1 where it writes. `guards` counts what it has in the reader field by which it keeps writers out: a shared hold, a bias in transit, a bias reserved where
+-- there was no writer, and the rest of a batch that is counted. `late` is 1 where it has reserved a bias under a writer. It waits as a writer where `writes` is 1, and as a reader whose grant word is
+-- 0 where `granted` is. `rest` are the tasks of its batch that aren't granted yet.
 pub record DutyPart : Type 0 where
   pub task : Option ℕ
   pub alone : ℕ
@@ -90,7 +92,8 @@ pub record PartOk (p : DutyPart) : Type 0 where
   pub chosen : (t : ℕ) → 1 ≤ chose t p → t < MAX_TASKS
   pub rest : (t : ℕ) → times t p.rest ≤ chose t p
 
--- Of a list that isn't empty: somebody writes or reads, keeps writers out, or owes a wake; or the first waiter is a writer, and somebody has chosen it and hasn't set its wake word, or that word is set, or it tries before it sleeps.
+-- Of a list that isn't empty: somebody writes or reads, keeps writers out, or owes a wake; or the first waiter is a writer, and somebody has chosen it and hasn't set its wake word, or that word is
+-- set, or it tries before it sleeps.
 -- A bias that was reserved under a writer hides that the last reader lets go: while it stands, somebody writes, or owes a wake.
 -- A reader whose grant word was cleared while it waits: somebody has chosen it and hasn't set its wake word, or that word is set, or it loads its grant word before it sleeps.
 pub record DutyKept (words : List ℕ) (q : List Waiter) (ps : List DutyPart) : Type 0 where

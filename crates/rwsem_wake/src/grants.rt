@@ -1,6 +1,6 @@
 //! The parts of a wake that are steps on the count, the marks and the grant words.
 ghost use Rattle.std.specs.Prelude.{◌≡◌, ◌<◌, ◌≤◌, ◌+◌, ◌%◌, IsSome, length};
-ghost use Rattle.lock_core.specs.SiteHandles.{IsLatest, plan_of, view_of, task_in, SitsAt, KeepsPast, SaysSame};
+ghost use Rattle.lock_core.specs.SiteHandles.{IsLatest, plan_of, view_of, task_in, SitsAt, StepsAt, SaysSame};
 ghost use Rattle.lock_core.specs.Records.{bit};
 ghost use Rattle.lock_core.specs.Views.{SpinHolds};
 ghost use Rattle.wait_list.specs.Lists.{Knows, hand_at, list_part};
@@ -31,9 +31,7 @@ pub fn back_out<H: GrantHost>(
     requires written { seen % 2 ≡ 1 }
     requires first { KnowsFirst H.list (view_of pass.old) first }
     requires task { first < length (plan_of site.now) }
-    ensures own { SitsAt site.now pass.new }
-    ensures goes_on { KeepsPast pass.old pass.new }
-    ensures last { IsLatest pass.new }
+    ensures on { StepsAt site.now pass.old pass.new }
     ensures face { SaysSame pass.old pass.new }
     ensures later { (view_of pass.old).steps ≤ (view_of pass.new).steps }
     ensures steps { (view_of pass.new).steps ≡ (view_of pass.old).steps + 1 + bit overdue }
@@ -55,9 +53,7 @@ pub fn clear_first<H: GrantHost>(site: &Site<H>, pass: &mut Pass<H>, task: u32)
     requires held { SpinHolds (view_of pass.old).spin }
     requires next { IsNext (sem_at H.sem (view_of pass.old)) Removing task }
     requires task { task < length (plan_of site.now) }
-    ensures own { SitsAt site.now pass.new }
-    ensures goes_on { KeepsPast pass.old pass.new }
-    ensures last { IsLatest pass.new }
+    ensures on { StepsAt site.now pass.old pass.new }
     ensures face { SaysSame pass.old pass.new }
     ensures later { (view_of pass.old).steps ≤ (view_of pass.new).steps }
     ensures kept { OnlySem H.with_sem (view_of pass.old)
@@ -90,9 +86,7 @@ pub fn count_batch<H: GrantHost>(
     requires few { readers ≤ MAX_TASKS }
     requires reserved { bit reserved ≡ early_weight (sem_at H.sem (view_of pass.old)).bias }
     requires empty { bit empty + some_of (hand_at H.list (view_of pass.old)).list ≡ 1 }
-    ensures own { SitsAt site.now pass.new }
-    ensures goes_on { KeepsPast pass.old pass.new }
-    ensures last { IsLatest pass.new }
+    ensures on { StepsAt site.now pass.old pass.new }
     ensures face { SaysSame pass.old pass.new }
     ensures later { (view_of pass.old).steps ≤ (view_of pass.new).steps }
     ensures kept { OnlySem H.with_sem (view_of pass.old)
@@ -117,9 +111,7 @@ pub fn grant_all<H: GrantHost>(site: &Site<H>, pass: &mut Pass<H>, batch: &[u32]
     requires held { SpinHolds (view_of pass.old).spin }
     requires granting { IsGranting (sem_at H.sem (view_of pass.old)) batch.now }
     requires tasks { AreTaskNumbers (plan_of site.now) batch.now }
-    ensures own { SitsAt site.now pass.new }
-    ensures goes_on { KeepsPast pass.old pass.new }
-    ensures last { IsLatest pass.new }
+    ensures on { StepsAt site.now pass.old pass.new }
     ensures face { SaysSame pass.old pass.new }
     ensures later { (view_of pass.old).steps ≤ (view_of pass.new).steps }
     ensures kept { OnlySem H.with_sem (view_of pass.old)
@@ -149,9 +141,7 @@ pub fn grant_removed<H: GrantHost>(
     requires whole { HasWholeBatch H.list H.sem (view_of pass.old) }
     requires reserved { bit reserved ≡ early_weight (sem_at H.sem (view_of pass.old)).bias }
     requires empty { bit empty + some_of (hand_at H.list (view_of pass.old)).list ≡ 1 }
-    ensures own { SitsAt site.now pass.new }
-    ensures goes_on { KeepsPast pass.old pass.new }
-    ensures last { IsLatest pass.new }
+    ensures on { StepsAt site.now pass.old pass.new }
     ensures face { SaysSame pass.old pass.new }
     ensures later { (view_of pass.old).steps ≤ (view_of pass.new).steps }
     ensures kept { OnlySem H.with_sem (view_of pass.old)

@@ -1,6 +1,6 @@
 //! The owner hint: who holds, where a task that has come to hold stored it. No fact rests on it.
 ghost use Rattle.std.specs.Prelude.{◌≡◌, ◌↔◌, ◌+◌, ◌*◌, ◌%◌, ◌<◌, IsSome, IsTrue};
-ghost use Rattle.lock_core.specs.SiteHandles.{IsLatest, view_of, task_in, SitsAt, KeepsPast, SaysSame};
+ghost use Rattle.lock_core.specs.SiteHandles.{view_of, task_in, SitsAt, StepsAt, SaysSame};
 ghost use Rattle.lock_core.specs.Views.{ticked};
 ghost use Rattle.rwsem_wake.specs.HintPlays.{Ticks};
 
@@ -49,9 +49,7 @@ impl Play<(), View<RwSemHand>> for OnHint {
 /// Stores the hint.
 pub fn set_hint<H: WakeHost>(site: &Site<H>, pass: &mut Pass<H>, hint: u64)
     requires own { SitsAt site.now pass.old }
-    ensures own { SitsAt site.now pass.new }
-    ensures goes_on { KeepsPast pass.old pass.new }
-    ensures last { IsLatest pass.new }
+    ensures on { StepsAt site.now pass.old pass.new }
     ensures face { SaysSame pass.old pass.new }
     ensures kept { view_of pass.new ≡ ticked (view_of pass.old) }
 {
@@ -63,9 +61,7 @@ pub fn set_hint<H: WakeHost>(site: &Site<H>, pass: &mut Pass<H>, hint: u64)
 pub fn note_reader<H: WakeHost>(site: &Site<H>, pass: &mut Pass<H>)
     requires own { SitsAt site.now pass.old }
     requires numbered { IsSome (task_in pass.old) }
-    ensures own { SitsAt site.now pass.new }
-    ensures goes_on { KeepsPast pass.old pass.new }
-    ensures last { IsLatest pass.new }
+    ensures on { StepsAt site.now pass.old pass.new }
     ensures face { SaysSame pass.old pass.new }
     ensures kept { view_of pass.new ≡ ticked (view_of pass.old) }
 {
@@ -79,9 +75,7 @@ pub fn note_reader<H: WakeHost>(site: &Site<H>, pass: &mut Pass<H>)
 pub fn note_writer<H: WakeHost>(site: &Site<H>, pass: &mut Pass<H>)
     requires own { SitsAt site.now pass.old }
     requires numbered { IsSome (task_in pass.old) }
-    ensures own { SitsAt site.now pass.new }
-    ensures goes_on { KeepsPast pass.old pass.new }
-    ensures last { IsLatest pass.new }
+    ensures on { StepsAt site.now pass.old pass.new }
     ensures face { SaysSame pass.old pass.new }
     ensures kept { view_of pass.new ≡ ticked (view_of pass.old) }
 {
@@ -94,9 +88,7 @@ pub fn note_writer<H: WakeHost>(site: &Site<H>, pass: &mut Pass<H>)
 /// Loads the hint. Answers whether it says that readers hold.
 pub fn is_reader_owned<H: WakeHost>(site: &Site<H>, pass: &mut Pass<H>) -> bool
     requires own { SitsAt site.now pass.old }
-    ensures own { SitsAt site.now pass.new }
-    ensures goes_on { KeepsPast pass.old pass.new }
-    ensures last { IsLatest pass.new }
+    ensures on { StepsAt site.now pass.old pass.new }
     ensures face { SaysSame pass.old pass.new }
     ensures kept { view_of pass.new ≡ ticked (view_of pass.old) }
 {

@@ -1,7 +1,7 @@
 //! The single steps of tasks that queue, on the count, the marks and the grant words of any host.
 ghost use Rattle.std.specs.Prelude.{◌≡◌, ◌≢◌, ℕ, ◌<◌, ◌≤◌, ◌+◌, ◌-◌, ◌*◌, ◌%◌, ◌==◌, ◌⊎◌, true, false, IsSome, Some, length};
 ghost use Rattle.word_bits.specs.LockWords.{IsLawfulCount};
-ghost use Rattle.lock_core.specs.SiteHandles.{IsLatest, plan_of, view_of, past_of, task_in, held_in, SitsAt, KeepsPast, SaysSame};
+ghost use Rattle.lock_core.specs.SiteHandles.{plan_of, view_of, past_of, task_in, held_in, SitsAt, StepsAt, SaysSame};
 ghost use Rattle.lock_core.specs.declared.view.Held.TheVariants.{No, Shared, Alone};
 ghost use Rattle.lock_core.specs.Pasts.{FoundAt};
 ghost use Rattle.lock_core.specs.Records.{bit};
@@ -44,9 +44,7 @@ pub fn set_waiters<H: GrantHost>(site: &Site<H>, pass: &mut Pass<H>)
     requires held { SpinHolds (view_of pass.old).spin }
     requires first { (sem_at H.sem (view_of pass.old)).stage ≡ First }
     requires clear { (sem_at H.sem (view_of pass.old)).bias ≡ Clear }
-    ensures own { SitsAt site.now pass.new }
-    ensures goes_on { KeepsPast pass.old pass.new }
-    ensures last { IsLatest pass.new }
+    ensures on { StepsAt site.now pass.old pass.new }
     ensures face { SaysSame pass.old pass.new }
     ensures kept { TurnsTo H.with_sem (view_of pass.old)
         (rested (sem_at H.sem (view_of pass.old))) (view_of pass.new) }
@@ -71,9 +69,7 @@ pub fn take_back<H: GrantHost>(site: &Site<H>, pass: &mut Pass<H>, alone: bool) 
     requires joined { (sem_at H.sem (view_of pass.old)).stage ≡ Joining alone }
     requires transit { (word : ℕ) × ((sem_at H.sem (view_of pass.old)).bias ≡ Transit word) }
     requires clear { (wake_at H.wake (view_of pass.old)).owing ≡ false }
-    ensures own { SitsAt site.now pass.new }
-    ensures goes_on { KeepsPast pass.old pass.new }
-    ensures last { IsLatest pass.new }
+    ensures on { StepsAt site.now pass.old pass.new }
     ensures face { SaysSame pass.old pass.new }
     ensures kept { ChangesTo H.with_sem H.with_wake (view_of pass.old)
         (unreserved (sem_at H.sem (view_of pass.old)))
@@ -105,9 +101,7 @@ pub fn look_listed<H: GrantHost>(site: &Site<H>, pass: &mut Pass<H>) -> u64
     requires rests { (sem_at H.sem (view_of pass.old)).stage ≡ Rest }
     requires writes { (sem_at H.sem (view_of pass.old)).wait ≡ Writes }
     requires clear { (sem_at H.sem (view_of pass.old)).bias ≡ Clear }
-    ensures own { SitsAt site.now pass.new }
-    ensures goes_on { KeepsPast pass.old pass.new }
-    ensures last { IsLatest pass.new }
+    ensures on { StepsAt site.now pass.old pass.new }
     ensures face { SaysSame pass.old pass.new }
     ensures kept { ChangesTo H.with_sem H.with_wake (view_of pass.old)
         (sem_at H.sem (view_of pass.old))
@@ -134,9 +128,7 @@ pub fn ask<H: GrantHost>(site: &Site<H>, pass: &mut Pass<H>, old: u64, new: u64)
     requires numbered { IsSome (task_in pass.old) }
     requires held { SpinHolds (view_of pass.old).spin }
     requires may { MayAsk H.list H.sem (view_of pass.old) old new }
-    ensures own { SitsAt site.now pass.new }
-    ensures goes_on { KeepsPast pass.old pass.new }
-    ensures last { IsLatest pass.new }
+    ensures on { StepsAt site.now pass.old pass.new }
     ensures face { SaysSame pass.old pass.new }
     ensures kept { TurnsTo H.with_sem (view_of pass.old)
         (asked (sem_at H.sem (view_of pass.old)) old result) (view_of pass.new) }
@@ -166,9 +158,7 @@ pub fn mark_asked<H: GrantHost>(site: &Site<H>, pass: &mut Pass<H>, task: u32)
     requires clear { (sem_at H.sem (view_of pass.old)).bias ≡ Clear }
     requires first { KnowsFirst H.list (view_of pass.old) task }
     requires task { task < length (plan_of site.now) }
-    ensures own { SitsAt site.now pass.new }
-    ensures goes_on { KeepsPast pass.old pass.new }
-    ensures last { IsLatest pass.new }
+    ensures on { StepsAt site.now pass.old pass.new }
     ensures face { SaysSame pass.old pass.new }
     ensures kept { TurnsTo H.with_sem (view_of pass.old)
         (rested (sem_at H.sem (view_of pass.old))) (view_of pass.new) }
@@ -194,9 +184,7 @@ pub fn look_first<H: GrantHost>(site: &Site<H>, pass: &mut Pass<H>, task: u32) -
     requires waits { (sees_itself H.list (view_of pass.old) ≡ true)
         ⊎ ((sem_at H.sem (view_of pass.old)).wait ≡ Writes) }
     requires task { task < length (plan_of site.now) }
-    ensures own { SitsAt site.now pass.new }
-    ensures goes_on { KeepsPast pass.old pass.new }
-    ensures last { IsLatest pass.new }
+    ensures on { StepsAt site.now pass.old pass.new }
     ensures face { SaysSame pass.old pass.new }
     ensures kept { ChangesTo H.with_sem H.with_wake (view_of pass.old)
         (unmarked (sem_at H.sem (view_of pass.old)) result)
@@ -223,9 +211,7 @@ pub fn clear_first<H: GrantHost>(site: &Site<H>, pass: &mut Pass<H>, task: u32)
     requires mine { task_in pass.old ≡ Some task }
     requires may { MayLook H.list H.sem (view_of pass.old) task }
     requires task { task < length (plan_of site.now) }
-    ensures own { SitsAt site.now pass.new }
-    ensures goes_on { KeepsPast pass.old pass.new }
-    ensures last { IsLatest pass.new }
+    ensures on { StepsAt site.now pass.old pass.new }
     ensures face { SaysSame pass.old pass.new }
     ensures kept { TurnsTo H.with_sem (view_of pass.old)
         (summing (sem_at H.sem (view_of pass.old))) (view_of pass.new) }
@@ -251,9 +237,7 @@ pub fn look_own<H: GrantHost>(site: &Site<H>, pass: &mut Pass<H>, task: u32) -> 
     requires removed { (sem_at H.sem (view_of pass.old)).stage ≡ Removed }
     requires clear { (sem_at H.sem (view_of pass.old)).bias ≡ Clear }
     requires task { task < length (plan_of site.now) }
-    ensures own { SitsAt site.now pass.new }
-    ensures goes_on { KeepsPast pass.old pass.new }
-    ensures last { IsLatest pass.new }
+    ensures on { StepsAt site.now pass.old pass.new }
     ensures face { SaysSame pass.old pass.new }
     ensures kept { TurnsTo H.with_sem (view_of pass.old)
         (own_unmarked (sem_at H.sem (view_of pass.old)) result) (view_of pass.new) }
@@ -278,9 +262,7 @@ pub fn clear_own<H: GrantHost>(site: &Site<H>, pass: &mut Pass<H>, task: u32)
     requires removed { (sem_at H.sem (view_of pass.old)).stage ≡ Removed }
     requires clear { (sem_at H.sem (view_of pass.old)).bias ≡ Clear }
     requires task { task < length (plan_of site.now) }
-    ensures own { SitsAt site.now pass.new }
-    ensures goes_on { KeepsPast pass.old pass.new }
-    ensures last { IsLatest pass.new }
+    ensures on { StepsAt site.now pass.old pass.new }
     ensures face { SaysSame pass.old pass.new }
     ensures kept { TurnsTo H.with_sem (view_of pass.old)
         (rested (sem_at H.sem (view_of pass.old))) (view_of pass.new) }
@@ -303,9 +285,7 @@ pub fn clear_flags<H: GrantHost>(site: &Site<H>, pass: &mut Pass<H>)
     requires held { SpinHolds (view_of pass.old).spin }
     requires emptied { (sem_at H.sem (view_of pass.old)).stage ≡ Emptied }
     requires clear { (sem_at H.sem (view_of pass.old)).bias ≡ Clear }
-    ensures own { SitsAt site.now pass.new }
-    ensures goes_on { KeepsPast pass.old pass.new }
-    ensures last { IsLatest pass.new }
+    ensures on { StepsAt site.now pass.old pass.new }
     ensures face { SaysSame pass.old pass.new }
     ensures kept { ChangesTo H.with_sem H.with_wake (view_of pass.old)
         (rested (sem_at H.sem (view_of pass.old))) (paid (wake_at H.wake (view_of pass.old)))
@@ -337,9 +317,7 @@ pub fn take<H: GrantHost>(
     requires out { held_in pass.old ≡ No }
     requires held { SpinHolds (view_of pass.old).spin }
     requires may { MayTake H.list H.sem (view_of pass.old) task alone old new }
-    ensures own { SitsAt site.now pass.new }
-    ensures goes_on { KeepsPast pass.old pass.new }
-    ensures last { IsLatest pass.new }
+    ensures on { StepsAt site.now pass.old pass.new }
     ensures took { result ≡ old → HoldsBy H.with_sem H.with_wake H.O.object (plan_of site.now) Alone
         (taken (sem_at H.sem (view_of pass.old)) old result)
         (exchanged old result (wake_at H.wake (view_of pass.old)))
@@ -375,9 +353,7 @@ pub fn settle<H: GrantHost>(site: &Site<H>, pass: &mut Pass<H>) -> bool
     requires out { held_in pass.old ≡ No }
     requires held { SpinHolds (view_of pass.old).spin }
     requires may { MaySettle H.list H.sem (view_of pass.old) }
-    ensures own { SitsAt site.now pass.new }
-    ensures goes_on { KeepsPast pass.old pass.new }
-    ensures last { IsLatest pass.new }
+    ensures on { StepsAt site.now pass.old pass.new }
     ensures took { result ≡ true → (word : ℕ) × FoundAt H.COUNT word (past_of pass.new)
         × (word % 2 ≡ 0) × HoldsBy H.with_sem H.with_wake H.O.object (plan_of site.now) Shared
         (settled (sem_at H.sem (view_of pass.old)) word) (wake_at H.wake (view_of pass.old))
@@ -411,9 +387,7 @@ pub fn hear<H: GrantHost>(site: &Site<H>, pass: &mut Pass<H>, task: u32) -> u64
     requires out { held_in pass.old ≡ No }
     requires may { MayHear (sem_at H.sem (view_of pass.old)) }
     requires owes { (wake_at H.wake (view_of pass.old)).owing ≡ false }
-    ensures own { SitsAt site.now pass.new }
-    ensures goes_on { KeepsPast pass.old pass.new }
-    ensures last { IsLatest pass.new }
+    ensures on { StepsAt site.now pass.old pass.new }
     ensures took { result ≡ 0 → HoldsBy H.with_sem H.with_wake H.O.object (plan_of site.now) Shared
         (heard (sem_at H.sem (view_of pass.old)) result)
         (heard_at result (wake_at H.wake (view_of pass.old)))
@@ -448,9 +422,7 @@ pub fn hear_locked<H: GrantHost>(site: &Site<H>, pass: &mut Pass<H>, task: u32) 
     requires held { SpinHolds (view_of pass.old).spin }
     requires may { MayHear (sem_at H.sem (view_of pass.old)) }
     requires owes { (wake_at H.wake (view_of pass.old)).owing ≡ false }
-    ensures own { SitsAt site.now pass.new }
-    ensures goes_on { KeepsPast pass.old pass.new }
-    ensures last { IsLatest pass.new }
+    ensures on { StepsAt site.now pass.old pass.new }
     ensures took { result ≡ 0 → HoldsBy H.with_sem H.with_wake H.O.object (plan_of site.now) Shared
         (heard_locked (sem_at H.sem (view_of pass.old)) result)
         (heard_locked_at result (wake_at H.wake (view_of pass.old)))

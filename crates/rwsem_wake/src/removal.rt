@@ -1,6 +1,6 @@
 //! The walk along the list of waiters, and the removal of a batch from it.
 ghost use Rattle.std.specs.Prelude.{◌≡◌, ◌≤◌, [], IsSome, Some, length, ◌<◌};
-ghost use Rattle.lock_core.specs.SiteHandles.{IsLatest, plan_of, view_of, task_in, SitsAt, KeepsPast, SaysSame};
+ghost use Rattle.lock_core.specs.SiteHandles.{IsLatest, plan_of, view_of, task_in, SitsAt, StepsAt, SaysSame};
 ghost use Rattle.lock_core.specs.Views.{SpinHolds};
 ghost use Rattle.wait_list.specs.Lists.{AreAmong, first_of, only_steps};
 ghost use Rattle.rwsem_wake.specs.declared.batches.TheConstants.{MAX_READERS_WAKEUP};
@@ -31,9 +31,7 @@ pub fn read_list<H: WakeHost>(
     requires first { Some first ≡ first_of (view_of pass.old).ext.list.list }
     requires task { first.task < length (plan_of site.now) }
     requires empty { waiters.old.items ≡ [] }
-    ensures own { SitsAt site.now pass.new }
-    ensures goes_on { KeepsPast pass.old pass.new }
-    ensures last { IsLatest pass.new }
+    ensures on { StepsAt site.now pass.old pass.new }
     ensures face { SaysSame pass.old pass.new }
     ensures later { (view_of pass.old).steps ≤ (view_of pass.new).steps }
     ensures kept { only_steps (view_of pass.old) (view_of pass.new) }
@@ -68,9 +66,7 @@ pub fn remove_all<H: WakeHost>(site: &Site<H>, pass: &mut Pass<H>, batch: &[u32]
     requires tasks { AreTaskNumbers (plan_of site.now) batch.now }
     requires heads { AreHeads batch.now (view_of pass.old).ext.list.list }
     requires begins { BeginsWith batch.now (view_of pass.old).ext.list.list }
-    ensures own { SitsAt site.now pass.new }
-    ensures goes_on { KeepsPast pass.old pass.new }
-    ensures last { IsLatest pass.new }
+    ensures on { StepsAt site.now pass.old pass.new }
     ensures face { SaysSame pass.old pass.new }
     ensures removed { RemovesAll (view_of pass.old) batch.now (view_of pass.new) }
 {

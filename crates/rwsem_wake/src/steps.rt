@@ -2,7 +2,7 @@
 //! under the wait lock.
 ghost use Rattle.std.specs.Prelude.{◌≡◌, ℕ, ◌<◌, ◌≤◌, ◌+◌, ◌*◌, ◌^◌, IsSome, Some, true, length};
 ghost use Rattle.word_bits.specs.LockWords.{IsLawfulCount};
-ghost use Rattle.lock_core.specs.SiteHandles.{IsLatest, plan_of, view_of, past_of, task_in, SitsAt, KeepsPast, SaysSame};
+ghost use Rattle.lock_core.specs.SiteHandles.{plan_of, view_of, past_of, task_in, SitsAt, StepsAt, SaysSame};
 ghost use Rattle.lock_core.specs.Ops.{word_after};
 ghost use Rattle.lock_core.specs.Pasts.{FoundAt};
 ghost use Rattle.lock_core.specs.Records.{bit};
@@ -52,9 +52,7 @@ pub fn arm<H: GrantHost>(site: &Site<H>, pass: &mut Pass<H>, task: u32)
     requires mine { task_in pass.old ≡ Some task }
     requires task { task < length (plan_of site.now) }
     requires rests { MayArm (sem_at H.sem (view_of pass.old)) }
-    ensures own { SitsAt site.now pass.new }
-    ensures goes_on { KeepsPast pass.old pass.new }
-    ensures last { IsLatest pass.new }
+    ensures on { StepsAt site.now pass.old pass.new }
     ensures face { SaysSame pass.old pass.new }
     ensures kept { TurnsTo H.with_sem (view_of pass.old)
         (armed (sem_at H.sem (view_of pass.old))) (view_of pass.new) }
@@ -77,9 +75,7 @@ pub fn reserve<H: GrantHost>(site: &Site<H>, pass: &mut Pass<H>) -> u64
     requires numbered { IsSome (task_in pass.old) }
     requires held { SpinHolds (view_of pass.old).spin }
     requires may { MayReserve H.list H.sem (view_of pass.old) }
-    ensures own { SitsAt site.now pass.new }
-    ensures goes_on { KeepsPast pass.old pass.new }
-    ensures last { IsLatest pass.new }
+    ensures on { StepsAt site.now pass.old pass.new }
     ensures face { SaysSame pass.old pass.new }
     ensures kept { ChangesTo H.with_sem H.with_wake (view_of pass.old)
         (reserved (sem_at H.sem (view_of pass.old)) result) (paid (wake_at H.wake (view_of pass.old)))
@@ -106,9 +102,7 @@ pub fn unreserve<H: GrantHost>(site: &Site<H>, pass: &mut Pass<H>)
     requires numbered { IsSome (task_in pass.old) }
     requires held { SpinHolds (view_of pass.old).spin }
     requires written { HasFoundWriter (sem_at H.sem (view_of pass.old)) }
-    ensures own { SitsAt site.now pass.new }
-    ensures goes_on { KeepsPast pass.old pass.new }
-    ensures last { IsLatest pass.new }
+    ensures on { StepsAt site.now pass.old pass.new }
     ensures face { SaysSame pass.old pass.new }
     ensures kept { TurnsTo H.with_sem (view_of pass.old)
         (unreserved (sem_at H.sem (view_of pass.old))) (view_of pass.new) }
@@ -132,9 +126,7 @@ pub fn mark_first<H: GrantHost>(site: &Site<H>, pass: &mut Pass<H>, task: u32)
     requires written { HasFoundWriter (sem_at H.sem (view_of pass.old)) }
     requires first { KnowsFirst H.list (view_of pass.old) task }
     requires task { task < length (plan_of site.now) }
-    ensures own { SitsAt site.now pass.new }
-    ensures goes_on { KeepsPast pass.old pass.new }
-    ensures last { IsLatest pass.new }
+    ensures on { StepsAt site.now pass.old pass.new }
     ensures face { SaysSame pass.old pass.new }
     ensures kept { TurnsTo H.with_sem (view_of pass.old)
         (marked (sem_at H.sem (view_of pass.old))) (view_of pass.new) }
@@ -158,9 +150,7 @@ pub fn ask_handoff<H: GrantHost>(site: &Site<H>, pass: &mut Pass<H>, handoff: bo
     requires numbered { IsSome (task_in pass.old) }
     requires held { SpinHolds (view_of pass.old).spin }
     requires marked { HasMarked (sem_at H.sem (view_of pass.old)) handoff }
-    ensures own { SitsAt site.now pass.new }
-    ensures goes_on { KeepsPast pass.old pass.new }
-    ensures last { IsLatest pass.new }
+    ensures on { StepsAt site.now pass.old pass.new }
     ensures face { SaysSame pass.old pass.new }
     ensures kept { TurnsTo H.with_sem (view_of pass.old)
         (unreserved (sem_at H.sem (view_of pass.old))) (view_of pass.new) }
@@ -183,9 +173,7 @@ pub fn look_mark<H: GrantHost>(site: &Site<H>, pass: &mut Pass<H>, task: u32) ->
     requires held { SpinHolds (view_of pass.old).spin }
     requires next { IsNext (sem_at H.sem (view_of pass.old)) Removing task }
     requires task { task < length (plan_of site.now) }
-    ensures own { SitsAt site.now pass.new }
-    ensures goes_on { KeepsPast pass.old pass.new }
-    ensures last { IsLatest pass.new }
+    ensures on { StepsAt site.now pass.old pass.new }
     ensures face { SaysSame pass.old pass.new }
     ensures kept { TurnsTo H.with_sem (view_of pass.old)
         (unmarked (sem_at H.sem (view_of pass.old)) result) (view_of pass.new) }
@@ -209,9 +197,7 @@ pub fn clear_mark<H: GrantHost>(site: &Site<H>, pass: &mut Pass<H>, task: u32)
     requires held { SpinHolds (view_of pass.old).spin }
     requires next { IsNext (sem_at H.sem (view_of pass.old)) Removing task }
     requires task { task < length (plan_of site.now) }
-    ensures own { SitsAt site.now pass.new }
-    ensures goes_on { KeepsPast pass.old pass.new }
-    ensures last { IsLatest pass.new }
+    ensures on { StepsAt site.now pass.old pass.new }
     ensures face { SaysSame pass.old pass.new }
     ensures kept { TurnsTo H.with_sem (view_of pass.old)
         (summing (sem_at H.sem (view_of pass.old))) (view_of pass.new) }
@@ -236,9 +222,7 @@ pub fn look_count<H: GrantHost>(site: &Site<H>, pass: &mut Pass<H>) -> u64
     requires keeps { KeepsOut H.sem (view_of pass.old) }
     requires knows { Knows (list_part H.list (view_of pass.old)) }
     requires whole { HasWholeBatch H.list H.sem (view_of pass.old) }
-    ensures own { SitsAt site.now pass.new }
-    ensures goes_on { KeepsPast pass.old pass.new }
-    ensures last { IsLatest pass.new }
+    ensures on { StepsAt site.now pass.old pass.new }
     ensures face { SaysSame pass.old pass.new }
     ensures kept { TurnsTo H.with_sem (view_of pass.old)
         (looked (sem_at H.sem (view_of pass.old)) (hand_at H.list (view_of pass.old)).list result)
@@ -278,9 +262,7 @@ pub fn add_sum<H: GrantHost>(site: &Site<H>, pass: &mut Pass<H>, gain: u64, loss
     requires sum { MaySum H.list H.sem (view_of pass.old) gain loss }
     requires keeps { KeepsOut H.sem (view_of pass.old) }
     requires knows { Knows (list_part H.list (view_of pass.old)) }
-    ensures own { SitsAt site.now pass.new }
-    ensures goes_on { KeepsPast pass.old pass.new }
-    ensures last { IsLatest pass.new }
+    ensures on { StepsAt site.now pass.old pass.new }
     ensures face { SaysSame pass.old pass.new }
     ensures kept { TurnsTo H.with_sem (view_of pass.old)
         (counted (sem_at H.sem (view_of pass.old))) (view_of pass.new) }
@@ -304,9 +286,7 @@ pub fn clear_grant<H: GrantHost>(site: &Site<H>, pass: &mut Pass<H>, task: u32)
     requires next { IsNext (sem_at H.sem (view_of pass.old)) Granting task }
     requires clear { (sem_at H.sem (view_of pass.old)).bias ≡ Clear }
     requires task { task < length (plan_of site.now) }
-    ensures own { SitsAt site.now pass.new }
-    ensures goes_on { KeepsPast pass.old pass.new }
-    ensures last { IsLatest pass.new }
+    ensures on { StepsAt site.now pass.old pass.new }
     ensures face { SaysSame pass.old pass.new }
     ensures kept { TurnsTo H.with_sem (view_of pass.old)
         (granted (sem_at H.sem (view_of pass.old))) (view_of pass.new) }

@@ -1,6 +1,6 @@
 //! Wakes of a semaphore's waiters. Whom they are for is chosen under the wait lock.
 ghost use Rattle.std.specs.Prelude.{◌≡◌, ◌<◌, ◌≤◌, ◌+◌, ◌%◌, [], true, false, IsSome, Some, length, ◌≢◌};
-ghost use Rattle.lock_core.specs.SiteHandles.{IsLatest, plan_of, view_of, task_in, SitsAt, KeepsPast, SaysSame};
+ghost use Rattle.lock_core.specs.SiteHandles.{IsLatest, plan_of, view_of, task_in, SitsAt, StepsAt, KeepsPast, SaysSame, MovesOn};
 ghost use Rattle.lock_core.specs.Records.{bit};
 ghost use Rattle.lock_core.specs.Views.{SpinHolds};
 ghost use Rattle.rwsem_count.specs.Counts.{early_weight, shared_weight};
@@ -8,7 +8,7 @@ ghost use Rattle.rwsem_wake.specs.Grants.{AreTaskNumbers, KeepsOut};
 ghost use Rattle.rwsem_wake.specs.SemParts.{some_of};
 ghost use Rattle.wait_list.specs.Lists.{first_of};
 ghost use Rattle.rwsem_wake.specs.RwSemViews.{MayPick, sem_of};
-ghost use Rattle.rwsem_wake.specs.RwSemPlaces.{AreCounts, MovesOn, seen_of};
+ghost use Rattle.rwsem_wake.specs.RwSemPlaces.{AreCounts, seen_of};
 ghost use Rattle.rwsem_wake.specs.Removals.{KnowsList, RemovesAll, StaysBeside};
 ghost use Rattle.rwsem_wake.specs.RwSemWakes.{Grants, kind_at, IsAtRest, Looks, MayWake, SawWriter, SetsAll, Wakes, batch_in, readers_woken, woken_tasks, HasChosenAll};
 ghost use Rattle.rwsem_wake.specs.Duties.{is_left};
@@ -58,9 +58,7 @@ fn remove_batch<H: WakeHost>(
     requires none { (view_of pass.old).ext.sem.rest ≡ [] }
     requires keeps { KeepsOut sem_of (view_of pass.old) }
     requires empty { readers.old.items ≡ [] }
-    ensures own { SitsAt site.now pass.new }
-    ensures goes_on { KeepsPast pass.old pass.new }
-    ensures last { IsLatest pass.new }
+    ensures on { StepsAt site.now pass.old pass.new }
     ensures face { SaysSame pass.old pass.new }
     ensures batch { readers.new.items ≡ batch_in (view_of pass.old).ext.list.list }
     ensures removed { RemovesAll (view_of pass.old)
@@ -100,9 +98,7 @@ fn grant<H: WakeHost>(
     requires none { (view_of pass.old).ext.sem.rest ≡ [] }
     requires keeps { KeepsOut sem_of (view_of pass.old) }
     requires reserved { bit reserved ≡ early_weight (view_of pass.old).ext.sem.bias }
-    ensures own { SitsAt site.now pass.new }
-    ensures goes_on { KeepsPast pass.old pass.new }
-    ensures last { IsLatest pass.new }
+    ensures on { StepsAt site.now pass.old pass.new }
     ensures face { SaysSame pass.old pass.new }
     ensures granted { Grants false (view_of pass.old) (view_of pass.new) }
     ensures woken { woken_tasks woken.new ≡ batch_in (view_of pass.old).ext.list.list }
@@ -133,9 +129,7 @@ fn grant_unless_written<H: WakeHost, P: Patience>(
     requires reader { first.writer ≡ false }
     requires may { shared_weight (view_of pass.old).hand.held ≡ 0 }
     requires empty { woken_tasks woken.old ≡ [] }
-    ensures own { SitsAt site.now pass.new }
-    ensures goes_on { KeepsPast pass.old pass.new }
-    ensures last { IsLatest pass.new }
+    ensures on { StepsAt site.now pass.old pass.new }
     ensures face { SaysSame pass.old pass.new }
     ensures granted { Grants result (view_of pass.old) (view_of pass.new) }
     ensures woken { woken_tasks woken.new ≡

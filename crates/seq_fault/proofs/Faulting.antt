@@ -11,7 +11,7 @@ use Rattle.lock_core.specs.Holding.{Learns}
 use Rattle.lock_core.specs.Layout.{length_place}
 use Rattle.lock_core.specs.SitePasses.{IsSeenReading}
 use Rattle.lock_core.specs.Pasts.{FoundAt, FoundAtStep, GoesOn, IsOwnStep, IsStepBy}
-use Rattle.lock_core.specs.SiteRunLaws.{found-at-step}
+use Rattle.lock_core.specs.Laws.SiteRun.{found-at-step}
 use Rattle.lock_core.specs.Views.{next_entry, ticked, after_seen}
 use Rattle.lock_core.proofs.HandLaws.{not-both}
 use Rattle.vma_map.specs.declared.call.SpaceCall.TheVariants.{Fault}

@@ -15,7 +15,7 @@ use Rattle.lock_core.specs.SitePasses.{Sits}
 use Rattle.seq_fault.specs.declared.view.Glance.{Glance}
 use Rattle.seq_fault.specs.SeqPlays.{saw_log}
 
-module _ {E : Type 0} (k : Plan) (table seat seat' : TableId) (me me' : Me (Unit {0}) (Seen E)) (face face' : Face) where
+module _ {E : Type 0} {k : Plan} {table seat seat' : TableId} {me me' : Me (Unit {0}) (Seen E)} {face face' : Face} where
   -- it has seen the log of a moment at which it looked
   pub sits-saw : (g : Glance) (ext : E) (front : ℕ) → me'.0.view ≡ record me.0.view { hand = saw_log me.0.view.hand g; steps = me.0.view.steps + 1; ext = ext } → length g.log ≤ calls_in k → length g.log ≡ front → seat' ≡ seat → me'.1 ≡ me.1 → face' ≡ record face { front = front } → Sits k table seat me face → Sits k table seat' me' face'
   sits-saw g ext front view within far same slots says r = let hand : me'.0.view.hand ≡ saw_log me.0.view.hand g = ap (λ (v : View E). v.hand) view in let steps : me'.0.view.steps ≡ me.0.view.steps + 1 = ap (λ (v : View E). v.steps) view in record {

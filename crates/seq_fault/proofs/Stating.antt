@@ -14,7 +14,7 @@ use Rattle.lock_core.proofs.RowLaws.{none-some, same-some}
 use Rattle.lock_core.proofs.Stating.{kept-states}
 use Rattle.seq_fault.specs.declared.view.Watch.{Watch}
 use Rattle.seq_fault.specs.SeqRuled.{V, SeqKept, SeqMoves, never, newest, seq_at, unmarked}
-use Rattle.seq_fault.specs.SeqRuledLaws.{none-alone}
+use Rattle.seq_fault.specs.Laws.SeqRuled.{none-alone}
 use Rattle.seq_fault.specs.SeqStated.{CountsEnters, IsSeqSite, StaysAtOneWord, holders, seq_of}
 use Rattle.seq_fault.proofs.Stepping.{each-hand}
 

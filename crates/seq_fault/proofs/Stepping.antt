@@ -29,7 +29,7 @@ use Rattle.lock_core.specs.Totals.{total, total-at}
 use Rattle.lock_core.specs.ViewParts.{Each}
 use Rattle.lock_core.specs.Sites.{SiteKept, HandGoes, KeepsSaw, HasPlan}
 use Rattle.lock_core.specs.Moves.{Lets}
-use Rattle.lock_core.specs.MoveLaws.{hand-stays, saw-stays}
+use Rattle.lock_core.specs.Laws.Move.{hand-stays, saw-stays}
 use Rattle.lock_core.proofs.HandLaws.{no-alone, not-both, false-or-true, stage-cases}
 use Rattle.lock_core.proofs.HoldSteps.{quiet-state, site-takes, site-frees}
 use Rattle.lock_core.proofs.Recording.{entry-fits}
@@ -43,7 +43,7 @@ use Rattle.seq_fault.specs.declared.view.Watch.{Watch}
 use Rattle.seq_fault.specs.declared.view.Watch.TheVariants.{Off, On}
 use Rattle.seq_fault.specs.Watches.{Fits, GlanceOk, IsAsThen, WatchOk}
 use Rattle.seq_fault.specs.SeqRuled.{V, SeqKept, SeqMoves, never, seq_at}
-use Rattle.seq_fault.specs.SeqRuledLaws.{no-shared, none-alone, rule-goes, watch-rises}
+use Rattle.seq_fault.specs.Laws.SeqRuled.{no-shared, none-alone, rule-goes, watch-rises}
 use Rattle.seq_fault.specs.SeqPlays as play
 
 its-plan : (k p : Plan) (plan : Option Plan) → HasPlan k plan → plan ≡ Some p → k ≡ p

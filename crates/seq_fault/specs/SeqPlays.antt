@@ -65,7 +65,8 @@ Measured st m n m' = ((k : Plan) → m.0.hand.plan ≡ Some k → n ≤ calls_in
 
 -- the second load of the sequence word
 abbrev pub Confirmed : Step (Unit {0}) → Sat Watch → ℕ → Sat Watch → Type 0
-Confirmed st m n m' = (g : Glance) → m.0.ext ≡ On g → (n ≡ g.word → (g.stale ≡ false) × ((k : Plan) → m.0.hand.plan ≡ Some k → length g.log ≤ calls_in k) × Turns m (turned m.0 (saw_log m.0.hand g) Off) m') × (n ≢ g.word → Turns m (turned m.0 m.0.hand Off) m')
+Confirmed st m n m' = (g : Glance) → m.0.ext ≡ On g → (n ≡ g.word → (g.stale ≡ false) × ((k : Plan) → m.0.hand.plan ≡ Some k → length g.log ≤ calls_in k)
+    × Turns m (turned m.0 (saw_log m.0.hand g) Off) m') × (n ≢ g.word → Turns m (turned m.0 m.0.hand Off) m')
 
 -- what a load of a guarded word at this place told a pass that watched from this moment on
 abbrev pub IsTold : (n at : ℕ) → Glance → V → V → Type 0

@@ -46,5 +46,6 @@ CountsEnters (m ∷ past) = (seq_of m + holders m ≡ 2 * enters (m ∷ past)) �
 
 -- At two moments the word is the same even one. Then no guarded word and no word of the log differs between the earlier one and any moment up to the later one.
 abbrev pub StaysAtOneWord : Plan → List Moment → Type 0
-StaysAtOneWord k past = (later between earlier : ℕ) (m p n : Moment) → slice_get past later ≡ Some m → slice_get past between ≡ Some p → slice_get past earlier ≡ Some n → later ≤ between → between ≤ earlier
+StaysAtOneWord k past = (later between earlier : ℕ) (m p n : Moment) → slice_get past later ≡ Some m → slice_get past between ≡ Some p → slice_get past earlier ≡ Some n → later ≤ between
+    → between ≤ earlier
     → seq_of m ≡ seq_of n → seq_of n % 2 ≡ 0 → SameObject (site k n.words) (site k p.words)

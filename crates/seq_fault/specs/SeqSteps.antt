@@ -72,7 +72,8 @@ pub record StepsAtMost (most : ℕ) (v u : V) : Type 0 where
   pub watch : Watch
   pub is : u ≡ record v { steps = v.steps + steps; ext = watch }
 
--- The pass's next call is a fault, whose words it has loaded while it watched from this even word on. Where no load came when the word was another, the log of that moment has so many entries, and the call replies this in the state after it.
+-- The pass's next call is a fault, whose words it has loaded while it watched from this even word on. Where no load came when the word was another, the log of that moment has so many entries, and the
+-- call replies this in the state after it.
 pub record IsOptimisticRead (k : Plan) (before front : ℕ) (reply : Reply) (v : V) : Type 0 where
   pub page : ℕ
   pub access : ℕ
@@ -84,7 +85,8 @@ pub record IsOptimisticRead (k : Plan) (before front : ℕ) (reply : Reply) (v :
   pub long : moment.stale ≡ false → length moment.log ≡ front
   pub replies : moment.stale ≡ false → reply ≡ access_reply (state_after space k moment.log page) access
 
--- The next call of the pass's task is done without the lock: its reply is its meaning on the state after a log that goes on from what the pass had seen. The pass has then seen that log, and the record stands at its end. So many steps were made, and one more that records.
+-- The next call of the pass's task is done without the lock: its reply is its meaning on the state after a log that goes on from what the pass had seen. The pass has then seen that log, and the
+-- record stands at its end. So many steps were made, and one more that records.
 pub record Faults (k : Plan) (v : V) (reply : Reply) (u : V) : Type 0 where
   pub log : List Entry
   pub begins : (length v.hand.seen ≤ length log) × (take (length v.hand.seen) log ≡ v.hand.seen)

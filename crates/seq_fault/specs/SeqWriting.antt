@@ -28,7 +28,8 @@ module _ {Call : Type 0} (o : Obj Call) (k : Plan) where
     pub is : o.call_of words ≡ Some call
     pub changes : o.reads call ≡ false
 
-  -- The call's reply is its meaning on the state after this log, to which it is appended, and its record stands at the end of this log. The pass has then seen the call too, has its number as before, one call more of its task is done, and it owes no signal.
+  -- The call's reply is its meaning on the state after this log, to which it is appended, and its record stands at the end of this log. The pass has then seen the call too, has its number as before,
+  -- one call more of its task is done, and it owes no signal.
   pub record Appends (log : List Entry) (h : Hand) (reply : Reply) (g : Hand) : Type 0 where
     pub words : CallWords
     pub call : Call

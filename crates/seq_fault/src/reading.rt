@@ -2,7 +2,7 @@
 ghost use Rattle.std.specs.Prelude.{◌≡◌, ◌≢◌, ◌≤◌, ℕ, ◌+◌, ◌%◌, List, None, IsSome, IfOk, IfErr};
 ghost use Rattle.lock_core.specs.declared.view.Held.TheVariants.{No};
 ghost use Rattle.lock_core.specs.Layout.{length_place};
-ghost use Rattle.lock_core.specs.SiteHandles.{IsLatest, plan_of, view_of, hand_in, past_of, task_in, held_in, done_in, front_in, SitsAt, KeepsPast, SaysSame};
+ghost use Rattle.lock_core.specs.SiteHandles.{IsLatest, plan_of, view_of, hand_in, past_of, task_in, held_in, done_in, front_in, SitsAt, StepsAt, SaysSame};
 ghost use Rattle.lock_core.specs.Pasts.{FoundAt};
 ghost use Rattle.lock_core.specs.Views.{OwesNoSignal, ticked};
 ghost use Rattle.word_bits.specs.PageMaps.{PageMap, IsPageMap};
@@ -27,9 +27,7 @@ fn search_words(site: &Site<SeqRule<Areas>>, pass: &mut Pass<SeqRule<Areas>>, se
     requires on { IsWatching (view_of pass.old) }
     requires begins { asked search.old ≡ 0 }
     requires agrees { (words : List ℕ) → AgreesWith words search.old }
-    ensures own { SitsAt site.now pass.new }
-    ensures goes_on { KeepsPast pass.old pass.new }
-    ensures last { IsLatest pass.new }
+    ensures on { StepsAt site.now pass.old pass.new }
     ensures face { SaysSame pass.old pass.new }
     ensures over { wanted search.new ≡ None }
     ensures page { page_of search.new ≡ page_of search.old }
@@ -71,9 +69,7 @@ pub(crate) fn read_optimistically(
     requires own { SitsAt site.now pass.old }
     requires access { IsAccess access }
     requires next { IsNextFault (plan_of site.now) (hand_in pass.old) page access }
-    ensures own { SitsAt site.now pass.new }
-    ensures goes_on { KeepsPast pass.old pass.new }
-    ensures last { IsLatest pass.new }
+    ensures on { StepsAt site.now pass.old pass.new }
     ensures face { SaysSame pass.old pass.new }
     ensures few { StepsAtMost 12 (view_of pass.old) (view_of pass.new) }
     ensures two { IfOk result (λ _.
@@ -118,9 +114,7 @@ pub(crate) fn validate(
     requires recorded { OwesNoSignal (hand_in pass.old) }
     requires read { IsOptimisticRead (plan_of site.now)
         read.before read.front read.reply (view_of pass.old) }
-    ensures own { SitsAt site.now pass.new }
-    ensures goes_on { KeepsPast pass.old pass.new }
-    ensures last { IsLatest pass.new }
+    ensures on { StepsAt site.now pass.old pass.new }
     ensures ok { IfOk result (λ reply.
         Faults (plan_of site.now) (view_of pass.old) reply (view_of pass.new)) }
     ensures front { IfOk result (λ _. front_in pass.new ≡ read.front) }
@@ -153,9 +147,7 @@ pub(crate) fn next_fault(
     requires numbered { IsSome (task_in pass.old) }
     requires call { call ≡ done_in pass.old }
     requires next { HasNextFault (plan_of site.now) (hand_in pass.old) }
-    ensures own { SitsAt site.now pass.new }
-    ensures goes_on { KeepsPast pass.old pass.new }
-    ensures last { IsLatest pass.new }
+    ensures on { StepsAt site.now pass.old pass.new }
     ensures kept { view_of pass.new ≡ ticked (ticked (view_of pass.old)) }
     ensures face { SaysSame pass.old pass.new }
     ensures next { IsNextFault (plan_of site.now) (hand_in pass.old) result.0 result.1 }

@@ -7,7 +7,7 @@ ghost use Rattle.lock_core.specs.Layout.{length_place};
 ghost use Rattle.lock_core.specs.Plans.{calls_in};
 ghost use Rattle.lock_core.specs.Pasts.{FoundAt};
 ghost use Rattle.lock_core.specs.Views.{handed, ticked};
-ghost use Rattle.lock_core.specs.SiteHandles.{IsLatest, plan_of, view_of, hand_in, past_of, task_in, held_in, done_in, SitsAt, KeepsPast, SaysSame};
+ghost use Rattle.lock_core.specs.SiteHandles.{plan_of, view_of, hand_in, past_of, task_in, held_in, done_in, SitsAt, StepsAt, SaysSame};
 ghost use Rattle.seq_fault.specs.declared.view.Glance.{Glance as Moment};
 ghost use Rattle.seq_fault.specs.declared.view.Watch.TheVariants.{Off, On};
 ghost use Rattle.seq_fault.specs.SeqPlays.{turned, saw_log, Looked, Entered, Left, Watched, Peeked, Measured, Confirmed};
@@ -78,9 +78,7 @@ impl Play<(), View<Watch>> for Confirming {
 /// Loads the sequence word.
 pub(crate) fn look<O: Object>(site: &Site<SeqRule<O>>, pass: &mut Pass<SeqRule<O>>) -> u64
     requires own { SitsAt site.now pass.old }
-    ensures own { SitsAt site.now pass.new }
-    ensures goes_on { KeepsPast pass.old pass.new }
-    ensures last { IsLatest pass.new }
+    ensures on { StepsAt site.now pass.old pass.new }
     ensures face { SaysSame pass.old pass.new }
     ensures kept { view_of pass.new ≡ ticked (view_of pass.old) }
     ensures found { FoundAt seq_at result (past_of pass.new) }
@@ -99,9 +97,7 @@ pub(crate) fn enter<O: Object>(
     requires out { held_in pass.old ≡ No }
     requires even { word % 2 ≡ 0 }
     requires small { word < 18446744073709551614 }
-    ensures own { SitsAt site.now pass.new }
-    ensures goes_on { KeepsPast pass.old pass.new }
-    ensures last { IsLatest pass.new }
+    ensures on { StepsAt site.now pass.old pass.new }
     ensures took { result ≡ true → EntersHold O.object (plan_of site.now)
         (view_of pass.old) (view_of pass.new) }
     ensures holds { result ≡ true → held_in pass.new ≡ Alone }
@@ -121,9 +117,7 @@ pub(crate) fn leave<O: Object>(site: &Site<SeqRule<O>>, pass: &mut Pass<SeqRule<
     requires own { SitsAt site.now pass.old }
     requires held { held_in pass.old ≡ Alone }
     requires quiet { (hand_in pass.old).writes ≡ false }
-    ensures own { SitsAt site.now pass.new }
-    ensures goes_on { KeepsPast pass.old pass.new }
-    ensures last { IsLatest pass.new }
+    ensures on { StepsAt site.now pass.old pass.new }
     ensures kept { view_of pass.new ≡ handed (view_of pass.old) (released (hand_in pass.old) 0) }
 {
     site.step::<Leaving>(pass, SEQUENCE, Op::Add(1));
@@ -133,9 +127,7 @@ pub(crate) fn leave<O: Object>(site: &Site<SeqRule<O>>, pass: &mut Pass<SeqRule<
 /// Loads the sequence word, and watches from then on where it is even.
 pub(crate) fn watch<O: Object>(site: &Site<SeqRule<O>>, pass: &mut Pass<SeqRule<O>>) -> u64
     requires own { SitsAt site.now pass.old }
-    ensures own { SitsAt site.now pass.new }
-    ensures goes_on { KeepsPast pass.old pass.new }
-    ensures last { IsLatest pass.new }
+    ensures on { StepsAt site.now pass.old pass.new }
     ensures face { SaysSame pass.old pass.new }
     ensures even { result % 2 ≡ 0 → Begins O.object (plan_of site.now) result
         (view_of pass.old) (view_of pass.new) }
@@ -154,9 +146,7 @@ pub(crate) fn peek<O: Object>(
     requires own { SitsAt site.now pass.old }
     requires inside { at < O.WORDS }
     requires on { IsWatching (view_of pass.old) }
-    ensures own { SitsAt site.now pass.new }
-    ensures goes_on { KeepsPast pass.old pass.new }
-    ensures last { IsLatest pass.new }
+    ensures on { StepsAt site.now pass.old pass.new }
     ensures face { SaysSame pass.old pass.new }
     ensures told { TellsSince (λ g. result ≡ slice_index g.known at)
         (view_of pass.old) (view_of pass.new) }
@@ -168,9 +158,7 @@ pub(crate) fn peek<O: Object>(
 pub(crate) fn measure<O: Object>(site: &Site<SeqRule<O>>, pass: &mut Pass<SeqRule<O>>) -> u64
     requires own { SitsAt site.now pass.old }
     requires on { IsWatching (view_of pass.old) }
-    ensures own { SitsAt site.now pass.new }
-    ensures goes_on { KeepsPast pass.old pass.new }
-    ensures last { IsLatest pass.new }
+    ensures on { StepsAt site.now pass.old pass.new }
     ensures face { SaysSame pass.old pass.new }
     ensures small { result ≤ calls_in (plan_of site.now) }
     ensures found { FoundAt length_place result (past_of pass.new) }
@@ -192,9 +180,7 @@ pub(crate) fn confirm<O: Object>(
     requires on { IsWatching (view_of pass.old) }
     requires measured { IsMeasured before front (view_of pass.old) }
     requires out { held_in pass.old ≡ No }
-    ensures own { SitsAt site.now pass.new }
-    ensures goes_on { KeepsPast pass.old pass.new }
-    ensures last { IsLatest pass.new }
+    ensures on { StepsAt site.now pass.old pass.new }
     ensures task { task_in pass.new ≡ task_in pass.old }
     ensures done { done_in pass.new ≡ done_in pass.old }
     ensures same { IfOk result

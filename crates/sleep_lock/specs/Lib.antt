@@ -1,3 +1,3 @@
 pub mod Leaving
-pub mod LockLaws
 pub mod LockMembers
+pub mod Laws

@@ -4,7 +4,7 @@ use Rattle.std.specs.List.{AllByRecursion}
 use Rattle.word_bits.specs.declared.area.Area.{Area}
 use Rattle.word_bits.specs.AreaWord.{IsArea, area_word}
 use Rattle.vma_map.specs.Runs.{AreRuns, IsSpace, page_map, words_of_areas}
-use Rattle.vma_map.specs.AreaLaws.{AreRuns-head, AreRuns-tail, page_map-below}
+use Rattle.vma_map.specs.Laws.Area.{AreRuns-head, AreRuns-tail, page_map-below}
 use Rattle.vma_map.specs.Spaces.{IsRunAt}
 use Rattle.vma_map.proofs.FindLemmas.{begun_at, page_map-between, page_map-found}
 use Rattle.vma_map.proofs.RangeLemmas.{no_area, AreRuns-at}

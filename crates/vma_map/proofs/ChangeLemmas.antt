@@ -6,7 +6,7 @@ use Rattle.word_bits.specs.declared.area.Area.{Area}
 use Rattle.word_bits.specs.PageMaps.{runs}
 use Rattle.vma_map.specs.Runs.{page_map, AreRuns, IsSpace, spliced, ends_of}
 use Rattle.vma_map.specs.Spaces.{changed}
-use Rattle.vma_map.specs.AreaLaws.{AreRuns-head, AreRuns-tail}
+use Rattle.vma_map.specs.Laws.Area.{AreRuns-head, AreRuns-tail}
 use Rattle.vma_map.proofs.CutLemmas.{all_take}
 use Rattle.vma_map.proofs.WordLemmas.{AreRuns-take}
 use Rattle.vma_map.proofs.SearchLemmas.{AreRuns-drop}

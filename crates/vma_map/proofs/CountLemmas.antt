@@ -4,7 +4,7 @@ use Rattle.std.proofs.lemmas.List.{take_more}
 use Rattle.word_bits.specs.declared.area.Area.{Area}
 use Rattle.word_bits.specs.PageMaps.{PageMap, mapped_from}
 use Rattle.vma_map.specs.Runs.{page_map, AreRuns}
-use Rattle.vma_map.specs.AreaLaws.{page_map-in, page_map-behind, page_map-before, AreRuns-head, AreRuns-tail}
+use Rattle.vma_map.specs.Laws.Area.{page_map-in, page_map-behind, page_map-before, AreRuns-head, AreRuns-tail}
 
 -- how many pages the areas have together
 abbrev pub covered : List Area → ℕ

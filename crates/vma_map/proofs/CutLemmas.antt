@@ -8,7 +8,7 @@ use Rattle.std.specs.List.Sorted.{IsNonDecreasingBy, IsPartitionPoint}
 use Rattle.std.proofs.lemmas.List.Sorted.{IsNonDecreasingBy-from_all_adjacent}
 use Rattle.word_bits.specs.declared.area.Area.{Area}
 use Rattle.vma_map.specs.Runs.{page_map, AreRuns}
-use Rattle.vma_map.specs.AreaLaws.{page_map-below, page_map-behind, AreRuns-tail}
+use Rattle.vma_map.specs.Laws.Area.{page_map-below, page_map-behind, AreRuns-tail}
 use Rattle.vma_map.proofs.RangeLemmas.{AreRuns-at, page_map-append}
 
 -- what holds of each of the first ones, as a recursion

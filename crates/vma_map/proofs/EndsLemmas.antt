@@ -7,7 +7,7 @@ use Rattle.word_bits.specs.declared.area.Area.{Area}
 use Rattle.word_bits.specs.AreaWord.{IsArea}
 use Rattle.vma_map.specs.Runs.{page_map, AreRuns, last_of, ends_of}
 use Rattle.vma_map.specs.Spaces.{changed}
-use Rattle.vma_map.specs.AreaLaws.{changed-in, changed-below, changed-above, page_map-behind, page_map-low, AreRuns-head}
+use Rattle.vma_map.specs.Laws.Area.{changed-in, changed-below, changed-above, page_map-behind, page_map-low, AreRuns-head}
 use Rattle.vma_map.proofs.RangeLemmas.{no_area}
 
 -- the last area begins where the first one ends, or behind it

@@ -4,9 +4,9 @@ use Rattle.std.specs.List.{AllByRecursion}
 use Rattle.std.proofs.lemmas.List.{take_more, take-append-drop, get_or_default}
 use Rattle.word_bits.specs.declared.area.Area.{Area}
 use Rattle.vma_map.specs.Runs.{page_map, AreRuns}
-use Rattle.vma_map.specs.PageRunLaws.{outside}
+use Rattle.vma_map.specs.Laws.PageRun.{outside}
 use Rattle.vma_map.specs.Spaces.{IsRunAt}
-use Rattle.vma_map.specs.AreaLaws.{AreRuns-head}
+use Rattle.vma_map.specs.Laws.Area.{AreRuns-head}
 use Rattle.vma_map.proofs.CutLemmas.{last_holds, none_from, none_to}
 use Rattle.vma_map.proofs.RangeLemmas.{at_index, page_map-append}
 use Rattle.vma_map.proofs.QueryLemmas.{page_map-at}

@@ -11,11 +11,11 @@ use Rattle.std.proofs.lemmas.Bool.{cases_lt}
 use Rattle.word_bits.specs.declared.area.Area.{Area}
 use Rattle.word_bits.specs.PageMaps.{PageMap, no_pages, runs}
 use Rattle.vma_map.specs.Runs.{page_map, AreRuns, spliced}
-use Rattle.vma_map.specs.PageRunLaws.{runs-page_map}
+use Rattle.vma_map.specs.Laws.PageRun.{runs-page_map}
 use Rattle.word_bits.specs.declared.reply.Errno.{Errno}
 use Rattle.word_bits.specs.declared.reply.Errno.TheVariants.{NoMem}
 use Rattle.vma_map.specs.Spaces.{changed, is_mapped}
-use Rattle.vma_map.specs.AreaLaws.{changed-in, changed-below, changed-above}
+use Rattle.vma_map.specs.Laws.Area.{changed-in, changed-below, changed-above}
 use Rattle.vma_map.specs.Remaps.{AreApart, IsOutside, IsMoved, IsRemapAnswer, with_moved}
 use Rattle.vma_map.proofs.RangeLemmas.{no_area, page_map-append, page_map-front, page_map-push, runs_at}
 use Rattle.vma_map.proofs.CutLemmas.{AreRuns-rest, none_from, none_to, ends_by}

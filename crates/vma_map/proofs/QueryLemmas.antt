@@ -7,7 +7,7 @@ use Rattle.word_bits.specs.declared.area.Area.{Area}
 use Rattle.word_bits.specs.PageMaps.{PageMap}
 use Rattle.vma_map.specs.Runs.{page_map, AreRuns}
 use Rattle.vma_map.specs.Spaces.{each_page, is_free, is_mapped, first_free, lowest_free, mapped, mapped_any, mapped_at}
-use Rattle.vma_map.specs.AreaLaws.{page_map-in, page_map-below, page_map-behind, page_map-before, AreRuns-head, AreRuns-tail}
+use Rattle.vma_map.specs.Laws.Area.{page_map-in, page_map-below, page_map-behind, page_map-before, AreRuns-head, AreRuns-tail}
 use Rattle.vma_map.proofs.RangeLemmas.{page_map-append, page_map-front, AreRuns-from}
 use Rattle.vma_map.proofs.WordLemmas.{AreRuns-init}
 use Rattle.std.specs.List.{AllByRecursion}

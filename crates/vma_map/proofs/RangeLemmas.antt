@@ -8,7 +8,7 @@ use Rattle.word_bits.specs.declared.area.Area.{Area}
 use Rattle.word_bits.specs.AreaWord.{IsArea}
 use Rattle.vma_map.specs.Runs.{page_map, Follows, AreRuns}
 use Rattle.vma_map.specs.Spaces.{changed}
-use Rattle.vma_map.specs.AreaLaws.{page_map-behind, AreRuns-head, AreRuns-tail}
+use Rattle.vma_map.specs.Laws.Area.{page_map-behind, AreRuns-head, AreRuns-tail}
 
 -- what stands in the place of no area
 abbrev pub no_area : Area

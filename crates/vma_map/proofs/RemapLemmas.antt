@@ -9,7 +9,7 @@ use Rattle.word_bits.specs.declared.reply.Errno.{Errno}
 use Rattle.word_bits.specs.declared.reply.Errno.TheVariants.{BadF, NoMem, Exist, Inval, MFile, Fault}
 use Rattle.vma_map.specs.Spaces.{changed, moved, share_page, is_mapped, unless_many, remapped}
 use Rattle.vma_map.specs.Remaps.{AreApart, IsOutside, IsMoved, IsRemapAnswer}
-use Rattle.vma_map.specs.AreaLaws.{changed-in, changed-below, changed-above}
+use Rattle.vma_map.specs.Laws.Area.{changed-in, changed-below, changed-above}
 use Rattle.vma_map.proofs.MoveLemmas.{IsMoved-unique}
 
 -- a page of the range that the pages go to

@@ -10,9 +10,9 @@ use Rattle.std.proofs.lemmas.Bool.{cases_lt}
 use Rattle.word_bits.specs.declared.area.Area.{Area}
 use Rattle.word_bits.specs.PageMaps.{runs}
 use Rattle.vma_map.specs.Runs.{page_map, AreRuns, IsSpace}
-use Rattle.vma_map.specs.PageRunLaws.{runs-page_map}
+use Rattle.vma_map.specs.Laws.PageRun.{runs-page_map}
 use Rattle.vma_map.specs.Spaces.{changed}
-use Rattle.vma_map.specs.AreaLaws.{changed-in, changed-below, changed-above, page_map-in, page_map-behind, page_map-low, page_map-end, AreRuns-head}
+use Rattle.vma_map.specs.Laws.Area.{changed-in, changed-below, changed-above, page_map-in, page_map-behind, page_map-low, page_map-end, AreRuns-head}
 use Rattle.vma_map.proofs.RangeLemmas.{page_map-append, page_map-front, ends_before}
 use Rattle.vma_map.proofs.CutLemmas.{AreRuns-rest, none_from, none_to, ends_by}
 

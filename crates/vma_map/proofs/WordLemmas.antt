@@ -9,7 +9,7 @@ use Rattle.word_bits.specs.declared.area.Area.{Area}
 use Rattle.word_bits.specs.AreaWord.{IsArea, area_word}
 use Rattle.word_bits.specs.Packed.{IsFound}
 use Rattle.vma_map.specs.Runs.{Follows, AreRuns, IsSpace, words_of_areas}
-use Rattle.vma_map.specs.AreaLaws.{AreRuns-head, map-area_word-injective}
+use Rattle.vma_map.specs.Laws.Area.{AreRuns-head, map-area_word-injective}
 use Rattle.vma_map.proofs.RangeLemmas.{no_area, at_index, AreRuns-at, AreRuns-from, AreRuns-after}
 
 -- a list that has a last element

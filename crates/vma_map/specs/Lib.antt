@@ -1,9 +1,6 @@
 pub mod Runs
 pub mod Spaces
-pub mod AreaLaws
-pub mod PageRunLaws
-pub mod SpaceCallLaws
-pub mod SpaceLaws
 pub mod Bisections
 pub mod Searches
 pub mod Remaps
+pub mod Laws

@@ -107,7 +107,7 @@ impl AreaStore for InMemory {
 impl Object for Areas {
     ghost use Rattle.vma_map.specs.Runs.{page_map};
     ghost use Rattle.vma_map.specs.Spaces.{space};
-    ghost use Rattle.vma_map.specs.SpaceLaws.{few_words, starts, zeros, called, signals, goes_on, replies, reading, refused};
+    ghost use Rattle.vma_map.specs.Laws.Space.{few_words, starts, zeros, called, signals, goes_on, replies, reading, refused};
 
     type Call = SpaceCall;
 
@@ -147,7 +147,7 @@ impl Object for Areas {
 }
 
 impl ValueObject for Areas {
-    ghost use Rattle.vma_map.specs.SpaceLaws.{sized, apart};
+    ghost use Rattle.vma_map.specs.Laws.Space.{sized, apart};
 
     fn empty() -> Self {
         Areas {

@@ -28,7 +28,7 @@ use Rattle.wait_list.specs.declared.view.Change.{Change}
 use Rattle.wait_list.specs.declared.view.Change.TheVariants.{Stay}
 use Rattle.wait_list.specs.declared.view.ListHand.{ListHand}
 use Rattle.wait_list.specs.Lists.{Part, Knows, ListKept, Allowed, IsList, Lists, IsNear, Learnt, LeaverGoes, MayStore, changed, counted, list_part, listed, sighted, takes_of}
-use Rattle.wait_list.specs.ListLaws.{list-learns, list-known, list-stores, none-change}
+use Rattle.wait_list.specs.Laws.List.{list-learns, list-known, list-stores, none-change}
 use Rattle.wait_list.specs.ListPlays.{Got, Laid, Sighted, FoundHead}
 use Rattle.wait_list.proofs.Waiters.{sound-changed}
 use Rattle.wait_list.proofs.Walks.{first-among, head-is}

@@ -12,7 +12,8 @@ use Rattle.wait_list.specs.Lists.{ArePlanned, list_part, listed, sighted, IsLawf
 
 module _ {E : Type 0} where
   abbrev pub Got : ℕ → (E → ListHand) → (Change → View E → ListHand → E) → (Change → View E → List Waiter → Type 0) → Step (Unit {0}) → Sat E → ℕ → Sat E → Type 0
-  Got place list with_list may_change st m n m' = (b : ListHand) × Learnt (list_part list m.0) b × (n ≡ slice_index b.words (st.word - place)) × IsLawful may_change m.0 b.list × Turns m (listed with_list Stay m.0 b) m' × ArePlanned m.0 b.list
+  Got place list with_list may_change st m n m' = (b : ListHand) × Learnt (list_part list m.0) b × (n ≡ slice_index b.words (st.word - place)) × IsLawful may_change m.0 b.list
+      × Turns m (listed with_list Stay m.0 b) m' × ArePlanned m.0 b.list
 
   abbrev pub Laid : (E → ListHand) → (Change → View E → ListHand → E) → Change → ListHand → Step (Unit {0}) → Sat E → ℕ → Sat E → Type 0
   Laid list with_list c b st m n m' = Allowed c (list m.0.ext).list × Turns m (listed with_list c m.0 b) m'

@@ -272,7 +272,8 @@ module _ {E : Type 0} where
 
   -- it has learnt what this word is, and that each waiter is a task of the plan
   abbrev pub LearntWord : (E → ListHand) → (Change → View E → ListHand → E) → (Change → View E → List Waiter → Type 0) → View E → ℕ → ℕ → View E → Type 0
-  LearntWord list with_list may_change v at n u = (b : ListHand) × Learnt (list_part list v) b × (n ≡ slice_index b.words at) × (u ≡ listed with_list Stay v b) × IsLawful may_change v b.list × ArePlanned v b.list
+  LearntWord list with_list may_change v at n u = (b : ListHand) × Learnt (list_part list v) b × (n ≡ slice_index b.words at) × (u ≡ listed with_list Stay v b) × IsLawful may_change v b.list
+      × ArePlanned v b.list
 
 -- whom the `next` of this code names, and that waiter's kind
 abbrev pub IsBehind : List ℕ → ℕ → Option Waiter → Type 0

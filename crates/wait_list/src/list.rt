@@ -1,6 +1,6 @@
 //! The list of a site, on which passes work that hold its spin lock.
 ghost use Rattle.std.specs.Prelude.{◌≡◌, ◌<◌, ◌≤◌, Option, IsSome, IfSome, Some, ◌+◌, length};
-ghost use Rattle.lock_core.specs.SiteHandles.{Finds, IsLatest, plan_of, view_of, past_of, task_in, SitsAt, KeepsPast, SaysSame};
+ghost use Rattle.lock_core.specs.SiteHandles.{Finds, IsLatest, plan_of, view_of, past_of, task_in, SitsAt, StepsAt, SaysSame};
 ghost use Rattle.lock_core.specs.Views.{SpinHolds};
 ghost use Rattle.wait_list.specs.declared.view.Change.TheVariants.{Enter, Leave};
 ghost use Rattle.wait_list.specs.Lists.{AllowsChange, AllowsStill, Appends, FindsBehind, FindsFirst, FindsNext, IsStill, Knows, KnowsCode, KnowsWaiter, Removes, TellsFirst, hand_at, list_part, next_place, only_steps, prev_with, sighted, waiter_code};
@@ -21,9 +21,7 @@ pub fn append<H: ListHost>(site: &Site<H>, pass: &mut Pass<H>, waiter: Waiter)
     requires still { IsStill H.list (view_of pass.old) }
     requires task { waiter.task < length (plan_of site.now) }
     requires host { AllowsChange H.list H.may_change (Enter waiter) (view_of pass.old) }
-    ensures own { SitsAt site.now pass.new }
-    ensures goes_on { KeepsPast pass.old pass.new }
-    ensures last { IsLatest pass.new }
+    ensures on { StepsAt site.now pass.old pass.new }
     ensures face { SaysSame pass.old pass.new }
     ensures later { (view_of pass.old).steps ≤ (view_of pass.new).steps }
     ensures steps { (view_of pass.new).steps ≤ (view_of pass.old).steps + 5 }
@@ -50,9 +48,7 @@ fn prev_after<H: ListHost>(site: &Site<H>, pass: &mut Pass<H>, next: u64, prev: 
     requires last { IsLatest pass.old }
     requires codes { (next ≤ length (plan_of site.now)) × (prev ≤ length (plan_of site.now)) }
     requires knows { Knows (list_part H.list (view_of pass.old)) }
-    ensures own { SitsAt site.now pass.new }
-    ensures goes_on { KeepsPast pass.old pass.new }
-    ensures last { IsLatest pass.new }
+    ensures on { StepsAt site.now pass.old pass.new }
     ensures face { SaysSame pass.old pass.new }
     ensures later { (view_of pass.old).steps ≤ (view_of pass.new).steps }
     ensures steps { (view_of pass.new).steps ≤ (view_of pass.old).steps + 1 }
@@ -74,9 +70,7 @@ pub fn remove<H: ListHost>(site: &Site<H>, pass: &mut Pass<H>, task: u32)
     requires still { IsStill H.list (view_of pass.old) }
     requires task { task < length (plan_of site.now) }
     requires host { AllowsChange H.list H.may_change (Leave task) (view_of pass.old) }
-    ensures own { SitsAt site.now pass.new }
-    ensures goes_on { KeepsPast pass.old pass.new }
-    ensures last { IsLatest pass.new }
+    ensures on { StepsAt site.now pass.old pass.new }
     ensures face { SaysSame pass.old pass.new }
     ensures later { (view_of pass.old).steps ≤ (view_of pass.new).steps }
     ensures steps { (view_of pass.new).steps ≤ (view_of pass.old).steps + 5 }
@@ -99,9 +93,7 @@ fn behind<H: ListHost>(site: &Site<H>, pass: &mut Pass<H>, code: u64) -> Option<
     requires still { IsStill H.list (view_of pass.old) }
     requires code { code ≤ length (plan_of site.now) }
     requires there { KnowsCode H.list code (view_of pass.old) }
-    ensures own { SitsAt site.now pass.new }
-    ensures goes_on { KeepsPast pass.old pass.new }
-    ensures last { IsLatest pass.new }
+    ensures on { StepsAt site.now pass.old pass.new }
     ensures face { SaysSame pass.old pass.new }
     ensures later { (view_of pass.old).steps ≤ (view_of pass.new).steps }
     ensures steps { (view_of pass.new).steps ≤ (view_of pass.old).steps + 2 }
@@ -125,9 +117,7 @@ pub fn first<H: ListHost>(site: &Site<H>, pass: &mut Pass<H>) -> Option<Waiter>
     requires own { SitsAt site.now pass.old }
     requires held { SpinHolds (view_of pass.old).spin }
     requires still { IsStill H.list (view_of pass.old) }
-    ensures own { SitsAt site.now pass.new }
-    ensures goes_on { KeepsPast pass.old pass.new }
-    ensures last { IsLatest pass.new }
+    ensures on { StepsAt site.now pass.old pass.new }
     ensures face { SaysSame pass.old pass.new }
     ensures later { (view_of pass.old).steps ≤ (view_of pass.new).steps }
     ensures steps { (view_of pass.new).steps ≤ (view_of pass.old).steps + 2 }
@@ -143,9 +133,7 @@ pub fn first_task<H: ListHost>(site: &Site<H>, pass: &mut Pass<H>) -> Option<u32
     requires own { SitsAt site.now pass.old }
     requires held { SpinHolds (view_of pass.old).spin }
     requires still { IsStill H.list (view_of pass.old) }
-    ensures own { SitsAt site.now pass.new }
-    ensures goes_on { KeepsPast pass.old pass.new }
-    ensures last { IsLatest pass.new }
+    ensures on { StepsAt site.now pass.old pass.new }
     ensures face { SaysSame pass.old pass.new }
     ensures kept { view_of pass.new ≡ sighted H.saw_first (view_of pass.old) (task_code result) }
     ensures found { FoundAt H.LIST (task_code result) (past_of pass.new) }
@@ -166,9 +154,7 @@ pub fn next<H: ListHost>(site: &Site<H>, pass: &mut Pass<H>, task: u32) -> Optio
     requires still { IsStill H.list (view_of pass.old) }
     requires task { task < length (plan_of site.now) }
     requires there { KnowsWaiter H.list task (view_of pass.old) }
-    ensures own { SitsAt site.now pass.new }
-    ensures goes_on { KeepsPast pass.old pass.new }
-    ensures last { IsLatest pass.new }
+    ensures on { StepsAt site.now pass.old pass.new }
     ensures face { SaysSame pass.old pass.new }
     ensures later { (view_of pass.old).steps ≤ (view_of pass.new).steps }
     ensures steps { (view_of pass.new).steps ≤ (view_of pass.old).steps + 2 }
@@ -183,9 +169,7 @@ pub fn next<H: ListHost>(site: &Site<H>, pass: &mut Pass<H>, task: u32) -> Optio
 pub fn is_first<H: ListHost>(site: &Site<H>, pass: &mut Pass<H>) -> bool
     requires own { SitsAt site.now pass.old }
     requires numbered { IsSome (task_in pass.old) }
-    ensures own { SitsAt site.now pass.new }
-    ensures goes_on { KeepsPast pass.old pass.new }
-    ensures last { IsLatest pass.new }
+    ensures on { StepsAt site.now pass.old pass.new }
     ensures face { SaysSame pass.old pass.new }
     ensures told { TellsFirst H.saw_first H.LIST (view_of pass.old) (task_in pass.old) result
         (view_of pass.new) (past_of pass.new) }

@@ -7,7 +7,7 @@
 //! and the `prev` of code 0 would, so a code gives the place of a link, from the list or from a
 //! waiter. The tail is a code. The kernel's `struct list_head` is such a ring.
 ghost use Rattle.std.specs.Prelude.{◌≡◌, ◌<◌, ◌≤◌, ◌+◌, ◌*◌, length};
-ghost use Rattle.lock_core.specs.SiteHandles.{IsLatest, plan_of, view_of, past_of, SitsAt, KeepsPast, SaysSame};
+ghost use Rattle.lock_core.specs.SiteHandles.{plan_of, view_of, past_of, SitsAt, StepsAt, SaysSame};
 ghost use Rattle.lock_core.specs.Pasts.{FoundAt};
 ghost use Rattle.lock_core.specs.Views.{SpinHolds};
 ghost use Rattle.wait_list.specs.declared.view.ListHand.{ListHand};
@@ -101,9 +101,7 @@ pub(crate) fn word<H: ListHost>(site: &Site<H>, pass: &mut Pass<H>, at: usize) -
     requires own { SitsAt site.now pass.old }
     requires held { SpinHolds (view_of pass.old).spin }
     requires inside { at < 8 + 8 * length (plan_of site.now) }
-    ensures own { SitsAt site.now pass.new }
-    ensures goes_on { KeepsPast pass.old pass.new }
-    ensures last { IsLatest pass.new }
+    ensures on { StepsAt site.now pass.old pass.new }
     ensures face { SaysSame pass.old pass.new }
     ensures told { LearntWord H.list H.with_list H.may_change
         (view_of pass.old) at result (view_of pass.new) }
@@ -125,9 +123,7 @@ fn store<H: ListHost, L: StoreKind>(
     requires inside { at < 8 + 8 * length (plan_of site.now) }
     requires host { AllowsKnown H.list H.may_change L.change (view_of pass.old) }
     requires may { MayStore (list_part H.list (view_of pass.old)) at new L.change L.hand }
-    ensures own { SitsAt site.now pass.new }
-    ensures goes_on { KeepsPast pass.old pass.new }
-    ensures last { IsLatest pass.new }
+    ensures on { StepsAt site.now pass.old pass.new }
     ensures face { SaysSame pass.old pass.new }
     ensures kept { view_of pass.new ≡ listed H.with_list L.change (view_of pass.old) L.hand }
 {
@@ -142,9 +138,7 @@ pub(crate) fn prepare<H: ListHost>(site: &Site<H>, pass: &mut Pass<H>, at: usize
     requires still { IsStill H.list (view_of pass.old) }
     requires may { MayStore (list_part H.list (view_of pass.old)) at new Stay
         (going_on (H.list (view_of pass.old).ext) at new) }
-    ensures own { SitsAt site.now pass.new }
-    ensures goes_on { KeepsPast pass.old pass.new }
-    ensures last { IsLatest pass.new }
+    ensures on { StepsAt site.now pass.old pass.new }
     ensures face { SaysSame pass.old pass.new }
     ensures kept { view_of pass.new ≡ listed H.with_list Stay
         (view_of pass.old) (going_on (H.list (view_of pass.old).ext) at new) }
@@ -161,9 +155,7 @@ pub(crate) fn enter<H: ListHost>(site: &Site<H>, pass: &mut Pass<H>, waiter: Wai
     requires lists { HasWords (H.list (view_of pass.old).ext) }
     requires prepared { IsPrepared (H.list (view_of pass.old).ext).words waiter }
     requires host { AllowsKnown H.list H.may_change (Enter waiter) (view_of pass.old) }
-    ensures own { SitsAt site.now pass.new }
-    ensures goes_on { KeepsPast pass.old pass.new }
-    ensures last { IsLatest pass.new }
+    ensures on { StepsAt site.now pass.old pass.new }
     ensures face { SaysSame pass.old pass.new }
     ensures kept { view_of pass.new ≡ listed H.with_list (Enter waiter) (view_of pass.old)
         (entering (H.list (view_of pass.old).ext) waiter TAIL_AT (waiter.task + 1)) }
@@ -180,9 +172,7 @@ pub(crate) fn leave<H: ListHost>(site: &Site<H>, pass: &mut Pass<H>, task: u32, 
     requires knows { Knows (list_part H.list (view_of pass.old)) }
     requires lists { HasWords (H.list (view_of pass.old).ext) }
     requires host { AllowsKnown H.list H.may_change (Leave task) (view_of pass.old) }
-    ensures own { SitsAt site.now pass.new }
-    ensures goes_on { KeepsPast pass.old pass.new }
-    ensures last { IsLatest pass.new }
+    ensures on { StepsAt site.now pass.old pass.new }
     ensures face { SaysSame pass.old pass.new }
     ensures kept { view_of pass.new ≡ listed H.with_list (Leave task)
         (view_of pass.old) (leaving (H.list (view_of pass.old).ext) task at new) }
@@ -197,9 +187,7 @@ pub(crate) fn close<H: ListHost>(site: &Site<H>, pass: &mut Pass<H>, at: usize, 
     requires inside { at < 8 + 8 * length (plan_of site.now) }
     requires may { MayStore (list_part H.list (view_of pass.old)) at new Stay
         (ending (H.list (view_of pass.old).ext) at new) }
-    ensures own { SitsAt site.now pass.new }
-    ensures goes_on { KeepsPast pass.old pass.new }
-    ensures last { IsLatest pass.new }
+    ensures on { StepsAt site.now pass.old pass.new }
     ensures face { SaysSame pass.old pass.new }
     ensures kept { view_of pass.new ≡ listed H.with_list Stay
         (view_of pass.old) (ending (H.list (view_of pass.old).ext) at new) }
@@ -210,9 +198,7 @@ pub(crate) fn close<H: ListHost>(site: &Site<H>, pass: &mut Pass<H>, at: usize, 
 /// A load of the head, with or without the spin lock.
 pub(crate) fn head<H: ListHost>(site: &Site<H>, pass: &mut Pass<H>) -> u64
     requires own { SitsAt site.now pass.old }
-    ensures own { SitsAt site.now pass.new }
-    ensures goes_on { KeepsPast pass.old pass.new }
-    ensures last { IsLatest pass.new }
+    ensures on { StepsAt site.now pass.old pass.new }
     ensures face { SaysSame pass.old pass.new }
     ensures kept { view_of pass.new ≡ sighted H.saw_first (view_of pass.old) result }
     ensures found { FoundAt H.LIST result (past_of pass.new) }
@@ -226,9 +212,7 @@ pub(crate) fn head_code<H: ListHost>(site: &Site<H>, pass: &mut Pass<H>) -> u64
     requires own { SitsAt site.now pass.old }
     requires held { SpinHolds (view_of pass.old).spin }
     requires still { IsStill H.list (view_of pass.old) }
-    ensures own { SitsAt site.now pass.new }
-    ensures goes_on { KeepsPast pass.old pass.new }
-    ensures last { IsLatest pass.new }
+    ensures on { StepsAt site.now pass.old pass.new }
     ensures face { SaysSame pass.old pass.new }
     ensures small { result ≤ length (plan_of site.now) }
     ensures kept { view_of pass.new ≡ sighted H.saw_first (view_of pass.old) result }

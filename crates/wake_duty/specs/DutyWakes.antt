@@ -100,7 +100,9 @@ pub record PartOk (p : WakePart) : Type 0 where
   pub past : (e : ℕ) → p.wake.wait_state ≡ Tried e → e ≤ p.entries
   pub chosen : (t : ℕ) → p.wake.duty ≡ Chosen t → t < MAX_TASKS
 
--- Of a first waiter: somebody holds, or ended its hold with the flag of the waiters and has chosen nobody. Or somebody has chosen this task and hasn't set its wake word. Or that word is set. Or the task is awake, and tries before it sleeps. From a failed try under the wait lock on, while the first waiter has it, somebody holds, or ended its hold with the flag of the waiters and has chosen nobody.
+-- Of a first waiter: somebody holds, or ended its hold with the flag of the waiters and has chosen nobody. Or somebody has chosen this task and hasn't set its wake word. Or that word is set. Or the
+-- task is awake, and tries before it sleeps. From a failed try under the wait lock on, while the first waiter has it, somebody holds, or ended its hold with the flag of the waiters and has chosen
+-- nobody.
 pub record WakeKept (words : List ℕ) (l : List Waiter) (ps : List WakePart) : Type 0 where
   pub wide : length words ≡ WAKE_WORDS
   pub bits : (t : ℕ) → t < MAX_TASKS → wake_word words t ≤ 1

@@ -1,4 +1,4 @@
 pub mod DutyWakes
-pub mod WakeLaws
 pub mod WakeSteps
 pub mod WakeMoves
+pub mod Laws

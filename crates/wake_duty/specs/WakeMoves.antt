@@ -5,7 +5,8 @@ use Rattle.wait_list.specs.declared.view.Waiter.{Waiter}
 use Rattle.wait_list.specs.Lists.{first_code}
 use Rattle.wake_duty.specs.DutyWakes.{wake_word}
 
--- what a step of a pass of this task makes of a wake word: it stays; or it is set, and the pass had chosen its task; or it is 0, and it is the own task's, which waits without the wait lock and isn't to try
+-- what a step of a pass of this task makes of a wake word: it stays; or it is set, and the pass had chosen its task; or it is 0, and it is the own task's, which waits without the wait lock and isn't
+-- to try
 abbrev pub WordGoes : (words words' : List ℕ) (task : Option ℕ) (locked queued awake : ℕ) (chosen : ℕ → Type 0) (t : ℕ) → Type 0
 WordGoes words words' task locked queued awake chosen t = (wake_word words' t ≡ wake_word words t)
     ⊎ ((wake_word words' t ≡ 1) × chosen t)
@@ -21,4 +22,5 @@ SetsChosen words' chosen wakes wakes' = (wakes' ≡ raised true wakes) × ((t : 
 
 -- a pass of this task falls asleep, which it counts: its own wake word was 0, and it waits without the wait lock and isn't to try
 abbrev pub DozesOff : (words : List ℕ) (task : Option ℕ) (locked queued awake awake' dozes dozes' : ℕ) → Type 0
-DozesOff words task locked queued awake awake' dozes dozes' = ((t : ℕ) × (task ≡ Some t) × (wake_word words t ≡ 0)) × (locked ≡ 0) × (queued ≡ 1) × (awake ≡ 0) × (awake' ≡ 0) × (dozes' ≡ raised true dozes)
+DozesOff words task locked queued awake awake' dozes dozes' = ((t : ℕ) × (task ≡ Some t) × (wake_word words t ≡ 0)) × (locked ≡ 0) × (queued ≡ 1) × (awake ≡ 0) × (awake' ≡ 0)
+    × (dozes' ≡ raised true dozes)

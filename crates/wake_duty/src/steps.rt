@@ -1,7 +1,7 @@
 //! The two steps on wake words: the waiter that was chosen is woken, and a waiter drowses.
 ghost use Rattle.std.specs.Prelude.{◌≡◌, ◌<◌, ◌+◌, ◌*◌, IsSome, length};
 ghost use Rattle.lock_core.specs.declared.view.Held.TheVariants.{No};
-ghost use Rattle.lock_core.specs.SiteHandles.{IsLatest, plan_of, view_of, past_of, task_in, held_in, SitsAt, KeepsPast, SaysSame};
+ghost use Rattle.lock_core.specs.SiteHandles.{plan_of, view_of, past_of, task_in, held_in, SitsAt, StepsAt, SaysSame};
 ghost use Rattle.lock_core.specs.Views.{SpinRests};
 ghost use Rattle.wake_duty.specs.WakeSteps.{HasTried, Woke, Drowsed, FallsAsleep, knowing};
 
@@ -42,9 +42,7 @@ pub fn set<H: SleepHost>(site: &Site<H>, pass: &mut Pass<H>, target: u32)
     requires own { SitsAt site.now pass.old }
     requires task { target < length (plan_of site.now) }
     requires chosen { H.has_chosen (view_of pass.old).ext target }
-    ensures own { SitsAt site.now pass.new }
-    ensures goes_on { KeepsPast pass.old pass.new }
-    ensures last { IsLatest pass.new }
+    ensures on { StepsAt site.now pass.old pass.new }
     ensures face { SaysSame pass.old pass.new }
     ensures kept { view_of pass.new ≡ knowing (view_of pass.old)
         (H.after_set (view_of pass.old).ext target) }
@@ -60,9 +58,7 @@ pub fn drowse<H: SleepHost>(site: &Site<H>, pass: &mut Pass<H>) -> bool
     requires unspun { SpinRests (view_of pass.old).spin }
     requires out { held_in pass.old ≡ No }
     requires tried { HasTried H.wait_state (view_of pass.old) }
-    ensures own { SitsAt site.now pass.new }
-    ensures goes_on { KeepsPast pass.old pass.new }
-    ensures last { IsLatest pass.new }
+    ensures on { StepsAt site.now pass.old pass.new }
     ensures face { SaysSame pass.old pass.new }
     ensures asleep { FallsAsleep H.after_swap H.WAKE (view_of pass.old) (task_in pass.old) result
         (view_of pass.new) (past_of pass.new) }

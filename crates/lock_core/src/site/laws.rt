@@ -5,7 +5,7 @@ ghost use Rattle.lock_core.specs.Views.{ticked};
 ghost use Rattle.lock_core.specs.SiteStated.{IsSiteThen, IsSiteMoveWhere};
 ghost use Rattle.lock_core.specs.Linear.{IsLinearizable};
 ghost use Rattle.lock_core.specs.Pasts.{BeganWith, EachMoment, IsMarked, KeepsJoined, Ran, RanByRule, opening};
-ghost use Rattle.lock_core.specs.SiteHandles.{plan_of, view_of, past_of, joined_by, SitsAt, KeepsPast, KeepsNest, IsLatest};
+ghost use Rattle.lock_core.specs.SiteHandles.{plan_of, view_of, past_of, joined_by, SitsAt, StepsAt, KeepsNest};
 
 use super::Site;
 use super::plays::Recall;
@@ -19,11 +19,9 @@ impl<R: SiteRule> Site<R> {
     /// each call took effect at one step, the one that stored its record.
     pub fn recall(&self, pass: &mut Pass<R>)
         requires own { SitsAt self.now pass.old }
-        ensures own { SitsAt self.now pass.new }
-        ensures goes_on { KeepsPast pass.old pass.new }
+        ensures on { StepsAt self.now pass.old pass.new }
         ensures nest { KeepsNest pass.old pass.new }
         ensures kept { view_of pass.new ≡ ticked (view_of pass.old) }
-        ensures last { IsLatest pass.new }
         ensures marked { IsMarked R.marks (view_of pass.new) (past_of pass.new) }
         ensures run { RanByRule R.marks R.idle R.holds R.moves
             (plan_of self.now) (past_of pass.new) }
@@ -38,11 +36,9 @@ impl<R: SiteRule> Site<R> {
     /// the table so far, from the new table on.
     pub fn stated(&self, pass: &mut Pass<R>)
         requires own { SitsAt self.now pass.old }
-        ensures own { SitsAt self.now pass.new }
-        ensures goes_on { KeepsPast pass.old pass.new }
+        ensures on { StepsAt self.now pass.old pass.new }
         ensures nest { KeepsNest pass.old pass.new }
         ensures kept { view_of pass.new ≡ ticked (view_of pass.old) }
-        ensures last { IsLatest pass.new }
         ensures begins { BeganWith (opening R.marks (plan_of self.now) R.idle) (past_of pass.new) }
         ensures always { EachMoment
             (IsSiteThen R.O.object R.unavailable R.O.WORDS (plan_of self.now)) (past_of pass.new) }
@@ -54,11 +50,9 @@ impl<R: SiteRule> Site<R> {
     /// words and to what the passes count: no entry of the log was lost, and no count fell.
     pub fn grown(&self, pass: &mut Pass<R>)
         requires own { SitsAt self.now pass.old }
-        ensures own { SitsAt self.now pass.new }
-        ensures goes_on { KeepsPast pass.old pass.new }
+        ensures on { StepsAt self.now pass.old pass.new }
         ensures nest { KeepsNest pass.old pass.new }
         ensures kept { view_of pass.new ≡ ticked (view_of pass.old) }
-        ensures last { IsLatest pass.new }
         ensures moves { Ran R.marks (opening R.marks (plan_of self.now) R.idle)
             (IsSiteMoveWhere R.reads_unheld (plan_of self.now) R.word_at) (past_of pass.new) }
     {

@@ -8,7 +8,7 @@ ghost use Rattle.lock_core.specs.Records.{row};
 ghost use Rattle.lock_core.specs.Pasts.{FoundAt};
 ghost use Rattle.lock_core.specs.Views.{ticked};
 ghost use Rattle.lock_core.specs.SitePasses.{Shows, TellsKnown};
-ghost use Rattle.lock_core.specs.SiteHandles.{plan_of, view_of, hand_in, past_of, SitsAt, IsOneOf, KeepsSeat, KeepsPast, KeepsNest, SaysSame, IsLatest, UndoneIsZero};
+ghost use Rattle.lock_core.specs.SiteHandles.{plan_of, view_of, hand_in, past_of, SitsAt, StepsAt, IsOneOf, KeepsSeat, KeepsNest, SaysSame, UndoneIsZero};
 
 use super::Site;
 use super::plays::{CallWord, RecWord};
@@ -57,10 +57,8 @@ impl<R: SiteRule> Site<R> {
         requires own { SitsAt self.now pass.old }
         requires task { task < length (plan_of self.now) }
         requires call { call < length (row (plan_of self.now) task) }
-        ensures own { SitsAt self.now pass.new }
-        ensures goes_on { KeepsPast pass.old pass.new }
+        ensures on { StepsAt self.now pass.old pass.new }
         ensures nest { KeepsNest pass.old pass.new }
-        ensures last { IsLatest pass.new }
         ensures kept { view_of pass.new ≡ ticked (ticked (view_of pass.old)) }
         ensures words { slice_get (row (plan_of self.now) task) call ≡ Some result }
     {
@@ -72,10 +70,8 @@ impl<R: SiteRule> Site<R> {
         requires own { SitsAt self.now pass.old }
         requires task { task < length (plan_of self.now) }
         requires call { call < length (row (plan_of self.now) task) }
-        ensures own { SitsAt self.now pass.new }
-        ensures goes_on { KeepsPast pass.old pass.new }
+        ensures on { StepsAt self.now pass.old pass.new }
         ensures nest { KeepsNest pass.old pass.new }
-        ensures last { IsLatest pass.new }
         ensures kept { view_of pass.new ≡ ticked (view_of pass.old) }
         ensures known { TellsKnown (hand_in pass.old) (record { task = task; call = call }) result }
         ensures made { result ≢ 0 → (r : Record) × IsRec r × (result ≡ rec_word r) }

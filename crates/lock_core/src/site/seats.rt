@@ -4,7 +4,7 @@ ghost use Rattle.word_bits.specs.declared.rec.Rec.{Rec as Record};
 ghost use Rattle.lock_core.specs.Records.{row};
 ghost use Rattle.lock_core.specs.Views.{handed, gave_up, Beside, BesideForgetting, HoldsNothing, Knows, OwesNoSignal};
 ghost use Rattle.lock_core.specs.SitePasses.{HasSeenAfter, HasSeenAfterCall};
-ghost use Rattle.lock_core.specs.SiteHandles.{plan_of, view_of, hand_in, task_in, front_in, SitsAt, IsOneOf, KeepsSeat, KeepsPast, KeepsNest, SaysSame, IsLatest, TakesNumber};
+ghost use Rattle.lock_core.specs.SiteHandles.{plan_of, view_of, hand_in, task_in, front_in, SitsAt, StepsAt, IsOneOf, KeepsSeat, KeepsNest, SaysSame, IsLatest, TakesNumber};
 
 use super::Site;
 use crate::layout::LINES_AT;
@@ -23,9 +23,7 @@ impl<R: SiteRule> Site<R> {
         requires own { SitsAt self.now pass.old }
         requires numberless { task_in pass.old ≡ None }
         requires there { task < length (plan_of self.now) }
-        ensures own { SitsAt self.now pass.new }
-        ensures goes_on { KeepsPast pass.old pass.new }
-        ensures last { IsLatest pass.new }
+        ensures on { StepsAt self.now pass.old pass.new }
         ensures became { TakesNumber R.O.object R.unavailable self.now task pass.old pass.new }
         ensures nest { KeepsNest pass.old pass.new }
         ensures beside { BesideForgetting (view_of pass.old) (view_of pass.new) }
@@ -140,9 +138,7 @@ impl<R: SiteRule> Site<R> {
         requires numbered { IsSome (task_in pass.old) }
         requires rests { HoldsNothing (view_of pass.old) × R.rests (view_of pass.old) }
         requires recorded { OwesNoSignal (hand_in pass.old) }
-        ensures own { SitsAt self.now pass.new }
-        ensures goes_on { KeepsPast pass.old pass.new }
-        ensures last { IsLatest pass.new }
+        ensures on { StepsAt self.now pass.old pass.new }
         ensures nest { KeepsNest pass.old pass.new }
         ensures kept { view_of pass.new ≡ handed (view_of pass.old) (gave_up (hand_in pass.old)) }
     {

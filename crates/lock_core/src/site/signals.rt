@@ -6,7 +6,7 @@ ghost use Rattle.lock_core.specs.SitePlays.{Heeded};
 ghost use Rattle.lock_core.specs.Views.{consuming, handed, sending};
 ghost use Rattle.lock_core.specs.SitePasses.{Hears, HearsOf, Consumes};
 ghost use Rattle.lock_core.specs.Signals.{HearsOfSome, HasHeard};
-ghost use Rattle.lock_core.specs.SiteHandles.{view_of, hand_in, past_of, task_in, SitsAt, IsOneOf, KeepsSeat, KeepsPast, KeepsNest, SaysSame, IsLatest, IsNextSignal, SawOwnSignals, SawNonePending};
+ghost use Rattle.lock_core.specs.SiteHandles.{view_of, hand_in, past_of, task_in, SitsAt, StepsAt, IsOneOf, KeepsSeat, KeepsNest, SaysSame, IsNextSignal, SawOwnSignals, SawNonePending};
 
 use super::Site;
 use super::plays::Taken;
@@ -34,10 +34,8 @@ impl<R: SiteRule> Site<R> {
         requires there { target < MAX_TASKS }
         requires unsent { (hand_in pass.old).sent ≡ None }
         requires next { IsNextSignal self.now pass.old target }
-        ensures own { SitsAt self.now pass.new }
-        ensures goes_on { KeepsPast pass.old pass.new }
+        ensures on { StepsAt self.now pass.old pass.new }
         ensures nest { KeepsNest pass.old pass.new }
-        ensures last { IsLatest pass.new }
         ensures kept { view_of pass.new ≡
             handed (view_of pass.old) (sending (hand_in pass.old) target) }
     {
@@ -51,10 +49,8 @@ impl<R: SiteRule> Site<R> {
     pub fn consume(&self, pass: &mut Pass<R>) -> Option<Interrupted>
         requires own { SitsAt self.now pass.old }
         requires numbered { IsSome (task_in pass.old) }
-        ensures own { SitsAt self.now pass.new }
-        ensures goes_on { KeepsPast pass.old pass.new }
+        ensures on { StepsAt self.now pass.old pass.new }
         ensures nest { KeepsNest pass.old pass.new }
-        ensures last { IsLatest pass.new }
         ensures consumed { IfSome result (λ why.
             Consumes why (view_of pass.old) (view_of pass.new)) }
         ensures saw { IfSome result (λ why. SawOwnSignals why pass.old pass.new) }
@@ -70,10 +66,8 @@ impl<R: SiteRule> Site<R> {
     pub fn pending(&self, pass: &mut Pass<R>) -> Option<Interrupted>
         requires own { SitsAt self.now pass.old }
         requires numbered { IsSome (task_in pass.old) }
-        ensures own { SitsAt self.now pass.new }
-        ensures goes_on { KeepsPast pass.old pass.new }
+        ensures on { StepsAt self.now pass.old pass.new }
         ensures nest { KeepsNest pass.old pass.new }
-        ensures last { IsLatest pass.new }
         ensures face { SaysSame pass.old pass.new }
         ensures heard { IfSome result (λ why.
             HearsOfSome why (view_of pass.old) (view_of pass.new)) }
@@ -96,10 +90,8 @@ impl<R: SiteRule> Site<R> {
         requires own { SitsAt self.now pass.old }
         requires numbered { IsSome (task_in pass.old) }
         requires heard { HasHeard why (hand_in pass.old) }
-        ensures own { SitsAt self.now pass.new }
-        ensures goes_on { KeepsPast pass.old pass.new }
+        ensures on { StepsAt self.now pass.old pass.new }
         ensures nest { KeepsNest pass.old pass.new }
-        ensures last { IsLatest pass.new }
         ensures face { SaysSame pass.old pass.new }
         ensures kept { view_of pass.new ≡
             handed (view_of pass.old) (consuming (hand_in pass.old)) }

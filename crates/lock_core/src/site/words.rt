@@ -14,7 +14,7 @@ ghost use Rattle.lock_core.specs.Chronicles.{Chronicles};
 ghost use Rattle.lock_core.specs.Locking.{IsStored};
 ghost use Rattle.lock_core.specs.SitePlays.{Heeded};
 ghost use Rattle.lock_core.specs.SitePasses.{IsLength, IsChange, IsEntryWord, Quiets};
-ghost use Rattle.lock_core.specs.SiteHandles.{plan_of, view_of, hand_in, past_of, task_in, held_in, done_in, front_in, SitsAt, IsOneOf, KeepsSeat, KeepsPast, KeepsNest, SaysSame, IsLatest, IsNextChange, IsNextReading, IsNextSeenReading, MayNoteNext, MayStoreRecord};
+ghost use Rattle.lock_core.specs.SiteHandles.{plan_of, view_of, hand_in, past_of, task_in, held_in, done_in, front_in, SitsAt, StepsAt, IsOneOf, KeepsSeat, KeepsNest, SaysSame, IsNextChange, IsNextReading, IsNextSeenReading, MayNoteNext, MayStoreRecord};
 
 use super::Site;
 use super::plays::{Chronicle, Guarded, Length, LogEntry, Puts};
@@ -40,10 +40,8 @@ impl<R: SiteRule> Site<R> {
         requires own { SitsAt self.now pass.old }
         requires held { (held_in pass.old) ≢ No }
         requires inside { at < R.O.WORDS }
-        ensures own { SitsAt self.now pass.new }
-        ensures goes_on { KeepsPast pass.old pass.new }
+        ensures on { StepsAt self.now pass.old pass.new }
         ensures nest { KeepsNest pass.old pass.new }
-        ensures last { IsLatest pass.new }
         ensures kept { view_of pass.new ≡ ticked (view_of pass.old) }
         ensures value { result ≡ slice_index (hand_in pass.old).known at }
         ensures found { FoundAt (LOCK_WORDS + at) result (past_of pass.new) }
@@ -56,10 +54,8 @@ impl<R: SiteRule> Site<R> {
     pub fn log_len(&self, pass: &mut Pass<R>) -> u32
         requires own { SitsAt self.now pass.old }
         requires held { (held_in pass.old) ≢ No }
-        ensures own { SitsAt self.now pass.new }
-        ensures goes_on { KeepsPast pass.old pass.new }
+        ensures on { StepsAt self.now pass.old pass.new }
         ensures nest { KeepsNest pass.old pass.new }
-        ensures last { IsLatest pass.new }
         ensures kept { view_of pass.new ≡ ticked (view_of pass.old) }
         ensures history { Chronicles R.O.object R.unavailable (plan_of self.now)
             (hand_in pass.old).records (hand_in pass.old).log }
@@ -74,10 +70,8 @@ impl<R: SiteRule> Site<R> {
         requires own { SitsAt self.now pass.old }
         requires held { (held_in pass.old) ≢ No }
         requires inside { at < length (hand_in pass.old).log }
-        ensures own { SitsAt self.now pass.new }
-        ensures goes_on { KeepsPast pass.old pass.new }
+        ensures on { StepsAt self.now pass.old pass.new }
         ensures nest { KeepsNest pass.old pass.new }
-        ensures last { IsLatest pass.new }
         ensures kept { view_of pass.new ≡ ticked (view_of pass.old) }
         ensures value { IsEntryWord (hand_in pass.old) at result }
         ensures found { FoundAt (entry_place at) result (past_of pass.new) }
@@ -90,10 +84,8 @@ impl<R: SiteRule> Site<R> {
         requires own { SitsAt self.now pass.old }
         requires held { held_in pass.old ≡ Alone }
         requires inside { at < R.O.WORDS }
-        ensures own { SitsAt self.now pass.new }
-        ensures goes_on { KeepsPast pass.old pass.new }
+        ensures on { StepsAt self.now pass.old pass.new }
         ensures nest { KeepsNest pass.old pass.new }
-        ensures last { IsLatest pass.new }
         ensures kept { view_of pass.new ≡
             handed (view_of pass.old) (wrote (hand_in pass.old) at value) }
     {
@@ -106,10 +98,8 @@ impl<R: SiteRule> Site<R> {
         requires own { SitsAt self.now pass.old }
         requires held { held_in pass.old ≡ Alone }
         requires stored { IsStored R.O.object (plan_of self.now) (hand_in pass.old) }
-        ensures own { SitsAt self.now pass.new }
-        ensures goes_on { KeepsPast pass.old pass.new }
+        ensures on { StepsAt self.now pass.old pass.new }
         ensures nest { KeepsNest pass.old pass.new }
-        ensures last { IsLatest pass.new }
         ensures kept { view_of pass.new ≡
             handed (view_of pass.old) (quieted (hand_in pass.old)) }
     {
@@ -125,10 +115,8 @@ impl<R: SiteRule> Site<R> {
         requires call { call ≡ (done_in pass.old) }
         requires recorded { OwesNoSignal (hand_in pass.old) }
         requires next { IsNextChange R.O.object self.now pass.old reply }
-        ensures own { SitsAt self.now pass.new }
-        ensures goes_on { KeepsPast pass.old pass.new }
+        ensures on { StepsAt self.now pass.old pass.new }
         ensures nest { KeepsNest pass.old pass.new }
-        ensures last { IsLatest pass.new }
         ensures kept { view_of pass.new ≡ after_commit (view_of pass.old) reply }
         ensures rises { (front_in pass.old) ≤ (front_in pass.new) }
     {
@@ -156,10 +144,8 @@ impl<R: SiteRule> Site<R> {
         requires call { call ≡ (done_in pass.old) }
         requires unsent { Unsent (hand_in pass.old) reply }
         requires next { MayNoteNext R.O.object R.unavailable self.now pass.old reply }
-        ensures own { SitsAt self.now pass.new }
-        ensures goes_on { KeepsPast pass.old pass.new }
+        ensures on { StepsAt self.now pass.old pass.new }
         ensures nest { KeepsNest pass.old pass.new }
-        ensures last { IsLatest pass.new }
         ensures kept { view_of pass.new ≡ after_note (view_of pass.old) reply }
         ensures rises { (front_in pass.old) ≤ (front_in pass.new) }
     {
@@ -180,10 +166,8 @@ impl<R: SiteRule> Site<R> {
         requires recorded { OwesNoSignal (hand_in pass.old) }
         requires unheld { R.reads_unheld ≡ true }
         requires next { IsNextSeenReading R.O.object self.now pass.old reply }
-        ensures own { SitsAt self.now pass.new }
-        ensures goes_on { KeepsPast pass.old pass.new }
+        ensures on { StepsAt self.now pass.old pass.new }
         ensures nest { KeepsNest pass.old pass.new }
-        ensures last { IsLatest pass.new }
         ensures kept { view_of pass.new ≡ after_seen (view_of pass.old) reply }
         ensures rises { (front_in pass.old) ≤ (front_in pass.new) }
     {
@@ -203,10 +187,8 @@ impl<R: SiteRule> Site<R> {
         requires call { call ≡ (done_in pass.old) }
         requires recorded { OwesNoSignal (hand_in pass.old) }
         requires next { IsNextReading R.O.object self.now pass.old reply }
-        ensures own { SitsAt self.now pass.new }
-        ensures goes_on { KeepsPast pass.old pass.new }
+        ensures on { StepsAt self.now pass.old pass.new }
         ensures nest { KeepsNest pass.old pass.new }
-        ensures last { IsLatest pass.new }
         ensures kept { view_of pass.new ≡ after_read (view_of pass.old) reply }
         ensures rises { (front_in pass.old) ≤ (front_in pass.new) }
     {
@@ -226,10 +208,8 @@ impl<R: SiteRule> Site<R> {
         requires unsent { Unsent (hand_in pass.old) reply }
         requires unheld { note_steps reply ≡ 1 }
         requires next { MayNoteNext R.O.object R.unavailable self.now pass.old reply }
-        ensures own { SitsAt self.now pass.new }
-        ensures goes_on { KeepsPast pass.old pass.new }
+        ensures on { StepsAt self.now pass.old pass.new }
         ensures nest { KeepsNest pass.old pass.new }
-        ensures last { IsLatest pass.new }
         ensures kept { view_of pass.new ≡ after_note (view_of pass.old) reply }
         ensures rises { (front_in pass.old) ≤ (front_in pass.new) }
     {

@@ -11,7 +11,7 @@ use word_bits::Object;
 impl<O: Object> SiteLock<O> for Mutex<O> {
     ghost use Rattle.lock_core.specs.Faces.{same-put};
     ghost use Rattle.lock_core.specs.Sitting.{SitsIdle};
-    ghost use Rattle.mutex_slow.specs.MutexSiteLaws.{mutex-frame};
+    ghost use Rattle.mutex_slow.specs.Laws.MutexSite.{mutex-frame};
 
     type Rule = MutexRule<O>;
 

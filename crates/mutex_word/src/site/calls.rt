@@ -9,7 +9,7 @@ use word_bits::Object;
 
 impl<O: Object> SiteLock<O> for OwnerSite<O> {
     ghost use Rattle.lock_core.specs.Faces.{same-put};
-    ghost use Rattle.mutex_word.specs.OwnerSiteLaws.{owner-frame};
+    ghost use Rattle.mutex_word.specs.Laws.OwnerSite.{owner-frame};
 
     type Rule = OwnerRule<O>;
 

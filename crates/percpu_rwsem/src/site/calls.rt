@@ -11,7 +11,7 @@ use word_bits::Object;
 
 impl<O: Object> SiteLock<O> for PercpuRwSem<O> {
     ghost use Rattle.lock_core.specs.Faces.{same-put};
-    ghost use Rattle.percpu_rwsem.specs.PercpuSiteLaws.{percpu-frame};
+    ghost use Rattle.percpu_rwsem.specs.Laws.PercpuSite.{percpu-frame};
 
     type Rule = PercpuRule<O>;
 

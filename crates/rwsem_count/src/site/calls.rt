@@ -10,7 +10,7 @@ use word_bits::Object;
 
 impl<O: Object> SiteLock<O> for CountSite<O> {
     ghost use Rattle.lock_core.specs.Faces.{same-put};
-    ghost use Rattle.rwsem_count.specs.CountSiteLaws.{count-frame};
+    ghost use Rattle.rwsem_count.specs.Laws.CountSite.{count-frame};
 
     type Rule = CountRule<O>;
 

@@ -11,7 +11,7 @@ use word_bits::Object;
 impl<O: Object> SiteLock<O> for RwSem<O> {
     ghost use Rattle.lock_core.specs.Faces.{same-put};
     ghost use Rattle.lock_core.specs.Sitting.{SitsIdle};
-    ghost use Rattle.rwsem_slow.specs.RwSemSiteLaws.{sem-frame};
+    ghost use Rattle.rwsem_slow.specs.Laws.RwSemSite.{sem-frame};
 
     type Rule = SemRule<O>;
 

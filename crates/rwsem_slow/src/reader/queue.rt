@@ -1,7 +1,7 @@
 //! How a reader queues.
 ghost use Rattle.std.specs.Prelude.{◌≡◌, ◌+◌, [], true, false, IfSome, IfNone, IsSome};
 ghost use Rattle.lock_core.specs.declared.view.Held.TheVariants.{No};
-ghost use Rattle.lock_core.specs.SiteHandles.{plan_of, view_of, task_in, held_in, SitsAt, KeepsPast, SaysSame};
+ghost use Rattle.lock_core.specs.SiteHandles.{plan_of, view_of, task_in, held_in, SitsAt, KeepsPast, SaysSame, MovesOn};
 ghost use Rattle.lock_core.specs.Records.{bit};
 ghost use Rattle.lock_core.specs.Views.{SpinHolds};
 ghost use Rattle.rwsem_wake.specs.declared.view.Wait.TheVariants.{Reads};
@@ -10,7 +10,7 @@ ghost use Rattle.rwsem_wake.specs.Duties.{left_by};
 ghost use Rattle.rwsem_wake.specs.Grants.{AreTaskNumbers};
 ghost use Rattle.rwsem_slow.specs.Queued.{Becomes, IsInTransit, IsInLineToWake, LooksAt, Shares, comes, waiting};
 ghost use Rattle.rwsem_wake.specs.Removals.{KnowsList};
-ghost use Rattle.rwsem_wake.specs.RwSemPlaces.{MovesOn, dozes_of, seen_of};
+ghost use Rattle.rwsem_wake.specs.RwSemPlaces.{dozes_of, seen_of};
 ghost use Rattle.rwsem_wake.specs.RwSemWakes.{woken_tasks};
 ghost use Rattle.rwsem_slow.specs.Waking.{FindsOneBiasMore, WakesQueued};
 

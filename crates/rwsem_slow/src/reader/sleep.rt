@@ -1,7 +1,7 @@
 //! How a queued reader sleeps, and hears that it is granted.
 ghost use Rattle.std.specs.Prelude.{◌≡◌, ◌≤◌, ◌+◌, true, false, IsSome, IfErr, IfOk};
 ghost use Rattle.lock_core.specs.declared.view.Held.TheVariants.{No, Shared};
-ghost use Rattle.lock_core.specs.SiteHandles.{plan_of, view_of, task_in, held_in, SitsAt, KeepsPast, SaysSame, hand_in};
+ghost use Rattle.lock_core.specs.SiteHandles.{plan_of, view_of, task_in, held_in, SitsAt, KeepsPast, SaysSame, hand_in, MovesOn};
 ghost use Rattle.lock_core.specs.Views.{SpinHolds, SpinRests};
 ghost use Rattle.rwsem_wake.specs.declared.view.Wait.TheVariants.{Reads};
 ghost use Rattle.wake_duty.specs.WakeSteps.{HasTried};
@@ -12,7 +12,7 @@ ghost use Rattle.lock_core.specs.Locking.{SawPending, Takes};
 ghost use Rattle.lock_core.specs.Signals.{HasHeard, OnlyConsumed};
 ghost use Rattle.cpu_task.specs.CpuCounting.{Dozes};
 ghost use Rattle.rwsem_slow.specs.SleepCounting.{SleepsBetween};
-ghost use Rattle.rwsem_wake.specs.RwSemPlaces.{AreCounts, IsOutside, MovesOn, dozes_of, seen_of};
+ghost use Rattle.rwsem_wake.specs.RwSemPlaces.{AreCounts, IsOutside, dozes_of, seen_of};
 
 use crate::SemRule;
 use crate::leave::interrupt;
@@ -54,14 +54,11 @@ fn hear_locked<O: Object>(site: &Site<SemRule<O>>, pass: &mut Pass<SemRule<O>>) 
     requires out { held_in pass.old ≡ No }
     requires locked { SpinHolds (view_of pass.old).spin }
     requires listed { IsInLine Reads (view_of pass.old) }
-    ensures own { SitsAt site.now pass.new }
-    ensures goes_on { KeepsPast pass.old pass.new }
-    ensures task { task_in pass.new ≡ task_in pass.old }
+    ensures on { MovesOn site.now pass.old pass.new }
     ensures took { result ≡ true →
         Shares O.object (plan_of site.now) (view_of pass.old) (view_of pass.new) }
     ensures spin { (view_of pass.new).spin ≡ (view_of pass.old).spin }
     ensures face { result ≡ false → SaysSame pass.old pass.new }
-    ensures later { (view_of pass.old).steps ≤ (view_of pass.new).steps }
     ensures missed { result ≡ false → SeesUngranted (view_of pass.old) (view_of pass.new) }
 {
     let Some(task) = pass.task() else {

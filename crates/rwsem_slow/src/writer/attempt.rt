@@ -3,7 +3,7 @@ ghost use Rattle.std.specs.Prelude.{◌≡◌, ◌≢◌, ◌↔◌, ◌<◌, �
 ghost use Rattle.word_bits.specs.LockWords.{IsLawfulCount};
 ghost use Rattle.lock_core.specs.declared.how.How.TheVariants.{Slept};
 ghost use Rattle.lock_core.specs.declared.view.Held.TheVariants.{No};
-ghost use Rattle.lock_core.specs.SiteHandles.{plan_of, view_of, task_in, held_in, SitsAt, KeepsPast, SaysSame};
+ghost use Rattle.lock_core.specs.SiteHandles.{plan_of, view_of, task_in, held_in, SitsAt, KeepsPast, SaysSame, MovesOn};
 ghost use Rattle.lock_core.specs.Views.{SpinHolds};
 ghost use Rattle.rwsem_wake.specs.declared.view.Wait.TheVariants.{Writes};
 ghost use Rattle.wait_list.specs.Lists.{first_code, first_of};
@@ -65,10 +65,8 @@ fn ask<O: Object>(
     requires asks { new ≡ old + 4 }
     requires listed { IsListed (view_of pass.old).ext.wake }
     requires tried { HasTried wait_state_of (view_of pass.old) }
-    ensures own { SitsAt site.now pass.new }
-    ensures goes_on { KeepsPast pass.old pass.new }
+    ensures on { MovesOn site.now pass.old pass.new }
     ensures face { SaysSame pass.old pass.new }
-    ensures later { (view_of pass.old).steps ≤ (view_of pass.new).steps }
     ensures missed { Tries (view_of pass.old) (view_of pass.new) }
     ensures untaken { result ≢ Attempt.Took }
     ensures tried { HasTried wait_state_of (view_of pass.new) }
@@ -101,15 +99,12 @@ fn take<O: Object>(
     requires queued { IsTrying (view_of pass.old).ext.sem }
     requires listed { IsListed (view_of pass.old).ext.wake }
     requires may { MayTake list_of sem_of (view_of pass.old) me alone old new }
-    ensures own { SitsAt site.now pass.new }
-    ensures goes_on { KeepsPast pass.old pass.new }
-    ensures task { task_in pass.new ≡ task_in pass.old }
+    ensures on { MovesOn site.now pass.old pass.new }
     ensures took { result ≡ Attempt.Took →
         HasTaken O.object (plan_of site.now) (view_of pass.old) (view_of pass.new) }
     ensures opened { result ≡ Attempt.Took →
         TakesOpen Slept (seen_of pass.old) (seen_of pass.new) }
     ensures face { result ≢ Attempt.Took → SaysSame pass.old pass.new }
-    ensures later { (view_of pass.old).steps ≤ (view_of pass.new).steps }
     ensures missed { result ≢ Attempt.Took → Rests (view_of pass.old) (view_of pass.new) }
     ensures again { (word : ℕ) → result ≡ Attempt.Again word →
         (IsLawfulCount word × HasTriedAt word (view_of pass.new)) }
@@ -139,10 +134,8 @@ fn is_alone<O: Object>(site: &Site<SemRule<O>>, pass: &mut Pass<SemRule<O>>, fir
     requires list { KnowsList (view_of pass.old) }
     requires first { Some first ≡ first_of (view_of pass.old).ext.list.list }
     requires task { first.task < length (plan_of site.now) }
-    ensures own { SitsAt site.now pass.new }
-    ensures goes_on { KeepsPast pass.old pass.new }
+    ensures on { MovesOn site.now pass.old pass.new }
     ensures face { SaysSame pass.old pass.new }
-    ensures later { (view_of pass.old).steps ≤ (view_of pass.new).steps }
     ensures kept { Stays (view_of pass.old) (view_of pass.new) }
     ensures only { (result ≡ true) ↔ (length (view_of pass.old).ext.list.list ≡ 1) }
 {
@@ -202,10 +195,8 @@ fn sees_mark<O: Object>(
     requires first { first_code (view_of pass.old).ext.list.list ≡ standing.first + 1 }
     requires task { standing.first < length (plan_of site.now) }
     requires listed { IsListed (view_of pass.old).ext.wake }
-    ensures own { SitsAt site.now pass.new }
-    ensures goes_on { KeepsPast pass.old pass.new }
+    ensures on { MovesOn site.now pass.old pass.new }
     ensures face { SaysSame pass.old pass.new }
-    ensures later { (view_of pass.old).steps ≤ (view_of pass.new).steps }
     ensures knows { KnowsMark standing.me standing.first count result
         (view_of pass.old) (view_of pass.new) }
 {
@@ -235,15 +226,12 @@ fn exchange<O: Object>(
     requires lawful { IsLawfulCount count }
     requires listed { IsListed (view_of pass.old).ext.wake }
     requires tried { HasTriedAt count (view_of pass.old) }
-    ensures own { SitsAt site.now pass.new }
-    ensures goes_on { KeepsPast pass.old pass.new }
-    ensures task { task_in pass.new ≡ task_in pass.old }
+    ensures on { MovesOn site.now pass.old pass.new }
     ensures took { result ≡ Attempt.Took →
         HasTaken O.object (plan_of site.now) (view_of pass.old) (view_of pass.new) }
     ensures opened { result ≡ Attempt.Took →
         TakesOpen Slept (seen_of pass.old) (seen_of pass.new) }
     ensures face { result ≢ Attempt.Took → SaysSame pass.old pass.new }
-    ensures later { (view_of pass.old).steps ≤ (view_of pass.new).steps }
     ensures missed { result ≢ Attempt.Took → Tries (view_of pass.old) (view_of pass.new) }
     ensures tried { result ≡ Attempt.Failed → HasTried wait_state_of (view_of pass.new) }
     ensures again { (word : ℕ) → result ≡ Attempt.Again word →
@@ -278,14 +266,11 @@ fn try_standing<O: Object, W: Wait>(
     requires lawful { IsLawfulCount standing.count }
     requires listed { IsListed (view_of pass.old).ext.wake }
     requires tried { HasTriedAt standing.count (view_of pass.old) }
-    ensures own { SitsAt site.now pass.new }
-    ensures goes_on { KeepsPast pass.old pass.new }
-    ensures task { task_in pass.new ≡ task_in pass.old }
+    ensures on { MovesOn site.now pass.old pass.new }
     ensures took { result ≡ true →
         HasTaken O.object (plan_of site.now) (view_of pass.old) (view_of pass.new) }
     ensures opened { result ≡ true → TakesOpen Slept (seen_of pass.old) (seen_of pass.new) }
     ensures face { result ≡ false → SaysSame pass.old pass.new }
-    ensures later { (view_of pass.old).steps ≤ (view_of pass.new).steps }
     ensures missed { result ≡ false → Tries (view_of pass.old) (view_of pass.new) }
     ensures tried { result ≡ false → HasTried wait_state_of (view_of pass.new) }
 {

@@ -2,7 +2,7 @@
 ghost use Rattle.std.specs.Prelude.{◌≡◌, ◌+◌, true, IfErr, IfOk, IfSome, IsSome};
 ghost use Rattle.lock_core.specs.declared.how.How.TheVariants.{Slept};
 ghost use Rattle.lock_core.specs.declared.view.Held.TheVariants.{No, Alone};
-ghost use Rattle.lock_core.specs.SiteHandles.{plan_of, view_of, hand_in, task_in, held_in, SitsAt};
+ghost use Rattle.lock_core.specs.SiteHandles.{plan_of, view_of, hand_in, task_in, held_in, SitsAt, MovesOn};
 ghost use Rattle.lock_core.specs.Locking.{SawPending, Takes};
 ghost use Rattle.lock_core.specs.Signals.{HasHeard};
 ghost use Rattle.lock_core.specs.Views.{SpinHolds};
@@ -11,7 +11,7 @@ ghost use Rattle.rwsem_wake.specs.declared.view.Wait.TheVariants.{Writes};
 ghost use Rattle.wake_duty.specs.WakeSteps.{HasTried};
 ghost use Rattle.rwsem_slow.specs.RwSems.{wait_state_of};
 ghost use Rattle.rwsem_slow.specs.RwSemOpening.{TakesOpen};
-ghost use Rattle.rwsem_wake.specs.RwSemPlaces.{AreCounts, MovesOn, dozes_of, seen_of};
+ghost use Rattle.rwsem_wake.specs.RwSemPlaces.{AreCounts, dozes_of, seen_of};
 ghost use Rattle.rwsem_slow.specs.Queued.{IsInLine, IsToQuit, KeepsLine, WaitsOn};
 
 use super::attempt;

@@ -3,7 +3,7 @@ ghost use Rattle.std.specs.Prelude.{◌≡◌, ◌≢◌, ◌↔◌, ◌+◌, �
 ghost use Rattle.word_bits.specs.LockWords.{IsLawfulCount};
 ghost use Rattle.lock_core.specs.declared.how.How.TheVariants.{Spun};
 ghost use Rattle.lock_core.specs.declared.view.Held.TheVariants.{No, Alone};
-ghost use Rattle.lock_core.specs.SiteHandles.{IsLatest, plan_of, view_of, past_of, task_in, held_in, SitsAt, KeepsPast, SaysSame};
+ghost use Rattle.lock_core.specs.SiteHandles.{plan_of, view_of, past_of, task_in, held_in, SitsAt, StepsAt, SaysSame, MovesOn};
 ghost use Rattle.lock_core.specs.Kinds.{semaphore, unavailable};
 ghost use Rattle.lock_core.specs.Locking.{OnlyTried, Takes};
 ghost use Rattle.lock_core.specs.Pasts.{FoundAt};
@@ -12,7 +12,7 @@ ghost use Rattle.osq_nodes.specs.OsqHandles as spinners;
 ghost use Rattle.rwsem_count.specs.CountTries.{MissesSince, TakesCount, TakesSince};
 ghost use Rattle.rwsem_wake.specs.SemParts.{apart_hand};
 ghost use Rattle.rwsem_slow.specs.RwSemOpening.{FindsUnlocked, TakesOpen};
-ghost use Rattle.rwsem_wake.specs.RwSemPlaces.{IsOutside, MovesOn, seen_of};
+ghost use Rattle.rwsem_wake.specs.RwSemPlaces.{IsOutside, seen_of};
 ghost use Rattle.rwsem_wake.specs.RwSemViews.{count_at};
 ghost use Rattle.rwsem_slow.specs.RwSems.{biased};
 ghost use Rattle.rwsem_slow.specs.Spinning.{IsUnlocked, LookedUnqueued, SawUnqueued, SeesShut, StandsSame, TakenUnqueued};
@@ -61,9 +61,7 @@ fn look<O: Object>(site: &Site<SemRule<O>>, pass: &mut Pass<SemRule<O>>) -> u64
     requires numbered { IsSome (task_in pass.old) }
     requires out { held_in pass.old ≡ No }
     requires apart { (view_of pass.old).ext.sem ≡ apart_hand }
-    ensures own { SitsAt site.now pass.new }
-    ensures goes_on { KeepsPast pass.old pass.new }
-    ensures last { IsLatest pass.new }
+    ensures on { StepsAt site.now pass.old pass.new }
     ensures face { SaysSame pass.old pass.new }
     ensures saw { SawUnqueued (view_of pass.old) result (view_of pass.new) }
     ensures found { FoundAt count_at result (past_of pass.new) }
@@ -80,9 +78,7 @@ fn take<O: Object>(site: &Site<SemRule<O>>, pass: &mut Pass<SemRule<O>>, word: u
     requires clear { (view_of pass.old).ext.wake.owing ≡ false }
     requires free { IsUnlocked word }
     requires lawful { IsLawfulCount word }
-    ensures own { SitsAt site.now pass.new }
-    ensures goes_on { KeepsPast pass.old pass.new }
-    ensures last { IsLatest pass.new }
+    ensures on { StepsAt site.now pass.old pass.new }
     ensures took { result ≡ word →
         TakesCount biased O.object (plan_of site.now) Alone
         (view_of pass.old) (view_of pass.new) }
@@ -111,9 +107,7 @@ fn try_unqueued<O: Object, W: Wait>(
     requires out { held_in pass.old ≡ No }
     requires apart { (view_of pass.old).ext.sem ≡ apart_hand }
     requires clear { (view_of pass.old).ext.wake.owing ≡ false }
-    ensures own { SitsAt site.now pass.new }
-    ensures goes_on { KeepsPast pass.old pass.new }
-    ensures last { IsLatest pass.new }
+    ensures on { StepsAt site.now pass.old pass.new }
     ensures took { IfOk result (λ _. TakesSince biased O.object (plan_of site.now) Alone
         (view_of pass.old) (view_of pass.new)) }
     ensures face { IfErr result (λ _. SaysSame pass.old pass.new) }

@@ -1,7 +1,7 @@
 -- Nothing up to the place has been written, so what is moved is what was there at first.
 use Rattle.std.proofs.Common.{◌≡◌, ◌+◌, ◌-◌, ◌<◌, length, slice_index, slice_set, refl, sym, ap, ◌∙◌, arith}
 use Rattle.lock_core.specs.declared.view.Hand.{Hand}
-use Rattle.guarded.specs.SplicingLaws.{changes-none, changes-more}
+use Rattle.guarded.specs.Laws.Splicing.{changes-none, changes-more}
 use Rattle.guarded.proofs.Spliced.{set-long}
 use Rattle.guarded.proofs.Written.{looked, wrote-word, still-alone, same-known, roomed-more, others-same, roomed-none, roomed-all}
 use Rattle.guarded.proofs.splicing.make_room.Goals as goal

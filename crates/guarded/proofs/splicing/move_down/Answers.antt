@@ -1,7 +1,7 @@
 -- Nothing from the place on has been written, so what is moved is what was there at first.
 use Rattle.std.proofs.Common.{◌≡◌, ◌+◌, ◌-◌, ◌<◌, length, slice_index, slice_set, refl, ap, ◌∙◌, arith}
 use Rattle.lock_core.specs.declared.view.Hand.{Hand}
-use Rattle.guarded.specs.SplicingLaws.{changes-none, changes-more}
+use Rattle.guarded.specs.Laws.Splicing.{changes-none, changes-more}
 use Rattle.guarded.proofs.Spliced.{set-long}
 use Rattle.guarded.proofs.Written.{looked, wrote-word, still-alone, same-known, closed-more, others-same, moved-down}
 use Rattle.guarded.proofs.splicing.move_down.Goals as goal

@@ -4,7 +4,7 @@ use Rattle.std.proofs.lemmas.List.{length-map, get_or-map}
 use Rattle.word_bits.specs.AreaWord.{area_word}
 use Rattle.lock_core.specs.declared.view.Hand.{Hand}
 use Rattle.vma_map.proofs.RangeLemmas.{no_area, AreRuns-at}
-use Rattle.guarded.specs.SplicingLaws.{changes-none, changes-more}
+use Rattle.guarded.specs.Laws.Splicing.{changes-none, changes-more}
 use Rattle.guarded.proofs.Spliced.{set-long}
 use Rattle.guarded.proofs.Written.{wrote-word, still-alone, pieced-more, others-same, pieced-all}
 use Rattle.guarded.proofs.splicing.write_pieces.Goals as goal

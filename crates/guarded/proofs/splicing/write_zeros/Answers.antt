@@ -1,6 +1,6 @@
 use Rattle.std.proofs.Common.{◌≡◌, ◌<◌, length, slice_set, refl, ap, ◌∙◌, arith}
 use Rattle.lock_core.specs.declared.view.Hand.{Hand}
-use Rattle.guarded.specs.SplicingLaws.{changes-none, changes-more}
+use Rattle.guarded.specs.Laws.Splicing.{changes-none, changes-more}
 use Rattle.guarded.proofs.Spliced.{set-long}
 use Rattle.guarded.proofs.Written.{wrote-word, still-alone, others-same, cleared-more, cleared-all}
 use Rattle.guarded.proofs.splicing.write_zeros.Goals as goal

@@ -2,7 +2,7 @@ use Rattle.std.proofs.Common.{ap}
 use Rattle.std.specs.Arc.{arc_value}
 use Rattle.mutex_slow.specs.MutexHandles.{plan_of, shown_of, SitsAt}
 use Rattle.kept_words.specs.declared.mutex.SharedMutex.{SharedMutex}
-use Rattle.kept_words.specs.KeepingLaws.{split-begun}
+use Rattle.kept_words.specs.Laws.Keeping.{split-begun}
 use Rattle.kept_words.proofs.mutex.split_one.Goals as goal
 
 pub invariant_of-new : goal.invariant_of-new

@@ -2,7 +2,7 @@ use Rattle.std.proofs.Common.{◌∙◌, ap, arith}
 use Rattle.lock_core.specs.Plans.{appended, calls_in}
 use Rattle.lock_core.proofs.Planning.{calls_in-empty}
 use Rattle.kept_words.specs.Keeping.{opening}
-use Rattle.kept_words.specs.KeepingLaws.{planned-so}
+use Rattle.kept_words.specs.Laws.Keeping.{planned-so}
 use Rattle.kept_words.proofs.opening.plan.Goals as goal
 
 pub push-requires-clause-room : goal.push-requires-clause-room

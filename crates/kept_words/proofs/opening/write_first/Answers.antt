@@ -1,6 +1,6 @@
 use Rattle.std.proofs.Common.{◌∙◌}
 use Rattle.lock_core.specs.Kinds.{wakes_alone}
-use Rattle.kept_words.specs.KeepingLaws.{opened}
+use Rattle.kept_words.specs.Laws.Keeping.{opened}
 use Rattle.kept_words.proofs.opening.write_first.Goals as goal
 
 pub commit-requires-clause-change : goal.commit-requires-clause-change

@@ -2,7 +2,7 @@ use Rattle.std.proofs.Common.{ap}
 use Rattle.std.specs.Arc.{arc_value}
 use Rattle.rwsem_slow.specs.RwSemHandles.{plan_of, shown_of, SitsAt}
 use Rattle.kept_words.specs.declared.rwsem.SharedSem.{SharedSem}
-use Rattle.kept_words.specs.KeepingLaws.{split-begun}
+use Rattle.kept_words.specs.Laws.Keeping.{split-begun}
 use Rattle.kept_words.proofs.rwsem.split_one.Goals as goal
 
 pub invariant_of-new : goal.invariant_of-new

@@ -1,4 +1,4 @@
-use Rattle.std.proofs.Common.{◌≡◌, ◌≢◌, ℕ, ◌+◌, ◌<◌, sym, ap, ◌∙◌, subst, arith}
+use Rattle.std.proofs.Common.{ℕ, ◌<◌, sym, ap, ◌∙◌, subst, arith}
 use mathlib.Core.Logic.{dite}
 use native.Mathlib.Decide.{ℕ_discrete}
 use Rattle.std.specs.Prelude.{IsSome}
@@ -17,7 +17,7 @@ lock_with-requires-clause-out g c = c.requires.apart.out 0
 
 pub inner_pair-requires-clause-ready : goal.inner_pair-requires-clause-ready
 inner_pair-requires-clause-ready g c = record {
-  own = c.lock_with.ensures.own;
+  own = c.lock_with.ensures.on.own;
   numbered = subst (λ (f : Face). IsSome f.task) (sym c.lock_with.ensures.face) c.requires.apart.numbered;
   told = c.lock_with.ensures.told many c.requires.apart.told;
 }

@@ -2,7 +2,7 @@ use Rattle.std.proofs.Common.{◌++◌, ap, sym, ◌∙◌, subst, length}
 use Rattle.std.specs.Prelude.{flat_map}
 use Rattle.word_bits.specs.PageMaps.{runs}
 use Rattle.vma_map.specs.Runs.{page_map}
-use Rattle.vma_map.specs.SpaceLaws.{sized, apart}
+use Rattle.vma_map.specs.Laws.Space.{sized, apart}
 use Rattle.byte_streams.specs.Causes.{Adds}
 use Rattle.mm_report.specs.Text.{area_text, left_text}
 use Rattle.mm_report.proofs.state.write_space.Goals as goal

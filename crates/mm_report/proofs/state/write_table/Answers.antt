@@ -1,6 +1,6 @@
 use Rattle.std.proofs.Common.{ap, sym, ◌∙◌, subst, length}
 use Rattle.fd_table.specs.Tables.{fd_map}
-use Rattle.fd_table.specs.TableLaws.{sized, apart}
+use Rattle.fd_table.specs.Laws.Table.{sized, apart}
 use Rattle.byte_streams.specs.Causes.{Adds}
 use Rattle.mm_report.specs.Text.{table_text}
 use Rattle.mm_report.proofs.state.write_table.Goals as goal

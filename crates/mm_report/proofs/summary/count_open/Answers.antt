@@ -1,6 +1,6 @@
 use Rattle.std.proofs.Common.{ap, sym, ◌∙◌, length}
 use Rattle.fd_table.specs.Tables.{fd_map, used_from}
-use Rattle.fd_table.specs.TableLaws.{sized, apart}
+use Rattle.fd_table.specs.Laws.Table.{sized, apart}
 use Rattle.mm_report.proofs.summary.count_open.Goals as goal
 
 pub returns-then-state-ne-WORDS : goal.returns-then-state-ne-WORDS

@@ -1,6 +1,6 @@
 use Rattle.std.proofs.Common.{arith, subst, ap, sym, ◌∙◌, Option, true}
 use Rattle.lock_core.specs.declared.pass.Face.{Face}
-use Rattle.mutex_word.specs.OwnKinds.{or-one}
+use Rattle.mutex_word.specs.Laws.OwnKinds.{or-one}
 use Rattle.wait_list.specs.declared.view.Waiter.{Waiter}
 use Rattle.wait_list.specs.Lists.{FindsFirst}
 use Rattle.mutex_slow.specs.Mutexes.{V, list_of, with_list}
@@ -24,16 +24,16 @@ returns-else-first-task-clause-listed g c = behind-listed c.args.pass.now.seat.m
 
 pub returns-then-first-task-clause-on : goal.returns-then-first-task-clause-on
 returns-then-first-task-clause-on g c = let append = c.append.ensures.later in let first = c.first.ensures.later in let set = ap (λ (v : V). v.steps) c.set_waiters.ensures.kept in record {
-  own = c.set_waiters.ensures.own;
+  own = c.set_waiters.ensures.on.own;
   task = ap (λ (f : Face). f.task) (c.set_waiters.ensures.face ∙ (c.first.ensures.face ∙ c.append.ensures.face));
-  goes_on = λ p t. c.set_waiters.ensures.goes_on p (c.first.ensures.goes_on p (c.append.ensures.goes_on p t));
+  goes_on = λ p t. c.set_waiters.ensures.on.goes_on p (c.first.ensures.on.goes_on p (c.append.ensures.on.goes_on p t));
   steps = omega (arith, append, first, set);
 }
 
 pub returns-else-first-task-clause-on : goal.returns-else-first-task-clause-on
 returns-else-first-task-clause-on g c = let append = c.append.ensures.later in let first = c.first.ensures.later in record {
-  own = c.first.ensures.own;
+  own = c.first.ensures.on.own;
   task = ap (λ (f : Face). f.task) (c.first.ensures.face ∙ c.append.ensures.face);
-  goes_on = λ p t. c.first.ensures.goes_on p (c.append.ensures.goes_on p t);
+  goes_on = λ p t. c.first.ensures.on.goes_on p (c.append.ensures.on.goes_on p t);
   steps = omega (arith, append, first);
 }

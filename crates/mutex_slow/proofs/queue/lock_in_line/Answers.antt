@@ -4,7 +4,8 @@ use Rattle.lock_core.specs.declared.view.Hand.{Hand}
 use Rattle.mutex_slow.specs.declared.view.MutexHand.{MutexHand}
 use Rattle.mutex_slow.specs.MutexPlaces.{dozes_of, seen_of}
 use Rattle.lock_core.proofs.Within.{pending-within, sees-within}
-use Rattle.mutex_slow.proofs.Opening.{dozes-none, dozes-within, opens-behind, opens-before}
+use Rattle.cpu_task.proofs.SleepCounts.{dozes-none, dozes-within}
+use Rattle.mutex_slow.proofs.Opening.{opens-behind, opens-before}
 use Rattle.mutex_slow.proofs.queue.lock_in_line.Goals as goal
 
 pub returns-clause-interrupted : goal.returns-clause-interrupted
@@ -48,9 +49,7 @@ pub returns-in_default-clause-dozed : goal.returns-in_default-clause-dozed
 returns-in_default-clause-dozed g c = dozes-none (g.C.Cpu.sleeps c.args.cpu.now) (g.C.Cpu.sleeps c.args.cpu.now) (dozes_of c.args.pass.now.seat.me.0.view) (dozes_of c.unlock.new.pass.seat.me.0.view) refl (ap (λ (e : MutexHand). e.wake.dozes) c.unlock.ensures.ext ∙ (c.try_outside.ensures.counts.dozes ∙ ap (λ (e : MutexHand). e.wake.dozes) c.lock.ensures.gained.ext))
 
 pub returns-in_default-wait-clause-dozed : goal.returns-in_default-wait-clause-dozed
-returns-in_default-wait-clause-dozed g c = dozes-within (g.C.Cpu.sleeps c.args.cpu.now) (g.C.Cpu.sleeps c.args.cpu.now) (g.C.Cpu.sleeps c.wait.new.cpu) (dozes_of c.args.pass.now.seat.me.0.view) (dozes_of c.join.new.pass.seat.me.0.view) (dozes_of c.wait.new.pass.seat.me.0.view) (dozes_of c.unlock-in_default-wait.new.pass.seat.me.0.view) refl
-    (c.join.ensures.counts.dozes ∙ (c.try_outside.ensures.counts.dozes ∙ ap (λ (e : MutexHand). e.wake.dozes) c.lock.ensures.gained.ext)) c.wait.ensures.dozed (ap (λ (e : MutexHand). e.wake.dozes) c.unlock-in_default-wait.ensures.ext ∙ c.quit.ensures.counts.dozes)
+returns-in_default-wait-clause-dozed g c = dozes-within (g.C.Cpu.sleeps c.args.cpu.now) (g.C.Cpu.sleeps c.args.cpu.now) (g.C.Cpu.sleeps c.wait.new.cpu) (g.C.Cpu.sleeps c.wait.new.cpu) _ _ _ _ refl (c.join.ensures.counts.dozes ∙ (c.try_outside.ensures.counts.dozes ∙ ap (λ (e : MutexHand). e.wake.dozes) c.lock.ensures.gained.ext)) c.wait.ensures.dozed refl (ap (λ (e : MutexHand). e.wake.dozes) c.unlock-in_default-wait.ensures.ext ∙ c.quit.ensures.counts.dozes)
 
 pub returns-clause-dozed : goal.returns-clause-dozed
-returns-clause-dozed g c = dozes-within (g.C.Cpu.sleeps c.args.cpu.now) (g.C.Cpu.sleeps c.args.cpu.now) (g.C.Cpu.sleeps c.wait.new.cpu) (dozes_of c.args.pass.now.seat.me.0.view) (dozes_of c.join.new.pass.seat.me.0.view) (dozes_of c.wait.new.pass.seat.me.0.view) (dozes_of c.unlock-2.new.pass.seat.me.0.view) refl
-    (c.join.ensures.counts.dozes ∙ (c.try_outside.ensures.counts.dozes ∙ ap (λ (e : MutexHand). e.wake.dozes) c.lock.ensures.gained.ext)) c.wait.ensures.dozed (ap (λ (e : MutexHand). e.wake.dozes) c.unlock-2.ensures.ext ∙ c.quit-2.ensures.counts.dozes)
+returns-clause-dozed g c = dozes-within (g.C.Cpu.sleeps c.args.cpu.now) (g.C.Cpu.sleeps c.args.cpu.now) (g.C.Cpu.sleeps c.wait.new.cpu) (g.C.Cpu.sleeps c.wait.new.cpu) _ _ _ _ refl (c.join.ensures.counts.dozes ∙ (c.try_outside.ensures.counts.dozes ∙ ap (λ (e : MutexHand). e.wake.dozes) c.lock.ensures.gained.ext)) c.wait.ensures.dozed refl (ap (λ (e : MutexHand). e.wake.dozes) c.unlock-2.ensures.ext ∙ c.quit-2.ensures.counts.dozes)

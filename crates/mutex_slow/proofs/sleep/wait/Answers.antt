@@ -3,7 +3,8 @@ use Rattle.lock_core.specs.declared.view.Hand.{Hand}
 use Rattle.mutex_slow.specs.declared.view.MutexHand.{MutexHand}
 use Rattle.mutex_slow.specs.MutexPlaces.{dozes_of, seen_of}
 use Rattle.lock_core.proofs.Within.{pending-within}
-use Rattle.mutex_slow.proofs.Opening.{dozes-again, opens-behind, sleeps-again}
+use Rattle.cpu_task.proofs.SleepCounts.{dozes-again, turns-again}
+use Rattle.mutex_slow.proofs.Opening.{opens-behind}
 use Rattle.mutex_slow.proofs.sleep.wait.Goals as goal
 
 pub returns-in-Some-interrupted-clause-pending : goal.returns-in-Some-interrupted-clause-pending
@@ -21,7 +22,7 @@ returns-then-sleep_and_try-clause-opened g c = opens-behind c.args.site.now c.ar
 
 pub returns-then-sleep_and_try-clause-sleeps : goal.returns-then-sleep_and_try-clause-sleeps
 returns-then-sleep_and_try-clause-sleeps g c = let tries = c.try_listed.ensures.same.entries in let listens = c.interrupted.ensures.same.entries in let enters = c.sleep_and_try.ensures.entries in
-    sleeps-again c.args.pass.now.seat.me.0.view.spin.entries c.loop.pass.seat.me.0.view.spin.entries c.sleep_and_try.new.pass.seat.me.0.view.spin.entries (g.C.Cpu.sleeps c.args.cpu.now) (g.C.Cpu.sleeps c.loop.cpu) (g.C.Cpu.sleeps c.sleep_and_try.new.cpu) (dozes_of c.interrupted.new.pass.seat.me.0.view) (dozes_of c.sleep_and_try.new.pass.seat.me.0.view) c.loop.invariant.12 (omega (arith, tries, listens, enters)) c.sleep_and_try.ensures.dozed
+    turns-again c.args.pass.now.seat.me.0.view.spin.entries c.loop.pass.seat.me.0.view.spin.entries c.sleep_and_try.new.pass.seat.me.0.view.spin.entries (g.C.Cpu.sleeps c.args.cpu.now) (g.C.Cpu.sleeps c.loop.cpu) (g.C.Cpu.sleeps c.sleep_and_try.new.cpu) (dozes_of c.interrupted.new.pass.seat.me.0.view) (dozes_of c.sleep_and_try.new.pass.seat.me.0.view) c.loop.invariant.12 (omega (arith, tries, listens, enters)) c.sleep_and_try.ensures.dozed
 
 pub returns-then-sleep_and_try-clause-dozed : goal.returns-then-sleep_and_try-clause-dozed
 returns-then-sleep_and_try-clause-dozed g c = dozes-again (g.C.Cpu.sleeps c.args.cpu.now) (g.C.Cpu.sleeps c.loop.cpu) (g.C.Cpu.sleeps c.sleep_and_try.new.cpu) (dozes_of c.args.pass.now.seat.me.0.view) (dozes_of c.interrupted.new.pass.seat.me.0.view) (dozes_of c.sleep_and_try.new.pass.seat.me.0.view) (dozes_of c.loop.pass.seat.me.0.view) c.loop.invariant.16 (ap (λ (e : MutexHand). e.wake.dozes) c.interrupted.ensures.ext ∙ c.try_listed.ensures.counts.dozes) c.sleep_and_try.ensures.dozed
@@ -40,7 +41,7 @@ loop-preserved g c = let tries = c.try_listed.ensures.same.entries in let listen
   search rules,
   search rules,
   search rules,
-  sleeps-again c.args.pass.now.seat.me.0.view.spin.entries c.loop.pass.seat.me.0.view.spin.entries c.sleep_and_try.new.pass.seat.me.0.view.spin.entries (g.C.Cpu.sleeps c.args.cpu.now) (g.C.Cpu.sleeps c.loop.cpu) (g.C.Cpu.sleeps c.sleep_and_try.new.cpu) (dozes_of c.interrupted.new.pass.seat.me.0.view) (dozes_of c.sleep_and_try.new.pass.seat.me.0.view) c.loop.invariant.12 (omega (arith, tries, listens, enters)) c.sleep_and_try.ensures.dozed,
+  turns-again c.args.pass.now.seat.me.0.view.spin.entries c.loop.pass.seat.me.0.view.spin.entries c.sleep_and_try.new.pass.seat.me.0.view.spin.entries (g.C.Cpu.sleeps c.args.cpu.now) (g.C.Cpu.sleeps c.loop.cpu) (g.C.Cpu.sleeps c.sleep_and_try.new.cpu) (dozes_of c.interrupted.new.pass.seat.me.0.view) (dozes_of c.sleep_and_try.new.pass.seat.me.0.view) c.loop.invariant.12 (omega (arith, tries, listens, enters)) c.sleep_and_try.ensures.dozed,
   search rules,
   search rules,
   search rules,

@@ -1,6 +1,7 @@
 use Rattle.std.proofs.Common.{arith}
 use Rattle.osq_unqueue.proofs.Rising.{rises}
-use Rattle.mutex_slow.proofs.Opening.{answers-rise, opens-behind}
+use Rattle.cpu_task.proofs.SleepCounts.{answers-rise}
+use Rattle.mutex_slow.proofs.Opening.{opens-behind}
 use Rattle.mutex_slow.proofs.spin.spin_outside.Goals as goal
 
 pub returns-in_default-clause-opened : goal.returns-in_default-clause-opened

@@ -1,7 +1,8 @@
 use Rattle.std.proofs.Common.{◌≡◌, IsSome}
 use Rattle.lock_core.specs.declared.view.Held.TheVariants.{No}
 use Rattle.lock_core.specs.Locking.{OnlyTried}
-use Rattle.mutex_slow.specs.MutexPlaces.{seen_of, MovesOn, StandsSame, IsOutside}
+use Rattle.lock_core.specs.SiteHandles.{MovesOn}
+use Rattle.mutex_slow.specs.MutexPlaces.{seen_of, StandsSame, IsOutside}
 use Rattle.mutex_slow.specs.Mutexes.{OwesNoWake}
 use Rattle.mutex_slow.proofs.spin.spin_outside.Given as goal
 

@@ -1,7 +1,7 @@
 use Rattle.std.proofs.Common.{arith, ap, sym, subst, Option, ℕ, ◌∙◌, length}
-use Rattle.lock_core.proofs.Sitting.{sits-on}
+use Rattle.lock_core.proofs.Sitting.{sits-on, some-number}
 use Rattle.mutex_word.specs.OwnerTries.{IsMine}
-use Rattle.mutex_word.proofs.Owning.{reads, some-number}
+use Rattle.mutex_word.proofs.Owning.{reads}
 use Rattle.lock_core.specs.Stores.{HasWord}
 use Rattle.mutex_word.proofs.tries.load_own.Goals as goal
 
@@ -11,8 +11,12 @@ step-requires-clause-there g c = subst (HasWord (length c.args.site.now.table.sh
 pub step-requires-clause-lets : goal.step-requires-clause-lets
 step-requires-clause-lets g c = let k = c.args.site.now.table.shared.key in let t = some-number c.args.pass.now.face.task c.requires.numbered in reads g.H.O.Object.object g.H.SiteRule.unavailable g.H.O.Object.WORDS k (g.H.SiteRule.holds k) (g.H.SiteRule.moves k) g.H.OwnerHost.OWNER g.H.OwnerHost.may_be g.H.OwnerHost.may_own g.H.OwnerHost.may_miss g.H.OwnerHost.turned (g.met.H.SiteRule.site_kept k) (g.met.H.OwnerHost.own_kept k) (g.met.H.OwnerHost.owns k) (g.met.H.OwnerHost.own_may k) (g.met.H.OwnerHost.own_looks k) _ _ _ t.0 _ c.OWNER.ensures (sym c.requires.own.task ∙ t.1) (sym c.requires.own.held ∙ c.requires.held)
 
-pub returns-clause-own : goal.returns-clause-own
-returns-clause-own g c = let turn = c.step.ensures.told.1 in sits-on c.args.site.now.table.shared.key c.args.site.now.table.shared.table_id c.args.pass.now.seat.table_id c.step.new.pass.seat.table_id c.args.pass.now.seat.me c.step.new.pass.seat.me c.args.pass.now.face c.step.new.pass.face c.step.ensures.own.0 turn.1 (ap (λ v. v.hand) turn.0) (let n = ap (λ v. v.steps) turn.0 in omega (arith, n)) c.step.ensures.face c.requires.own
+pub returns-clause-on : goal.returns-clause-on
+returns-clause-on g c = record {
+  own = let turn = c.step.ensures.told.1 in sits-on c.step.ensures.own.0 turn.1 (ap (λ v. v.hand) turn.0) (let n = ap (λ v. v.steps) turn.0 in omega (arith, n)) c.step.ensures.face c.requires.own;
+  goes_on = c.step.ensures.goes_on;
+  last = c.step.ensures.last;
+}
 
 pub returns-clause-mine : goal.returns-clause-mine
 returns-clause-mine g c = subst (λ (t : Option ℕ). IsMine t c.step.result) (sym c.requires.own.task) c.step.ensures.told.0

@@ -11,8 +11,12 @@ step-requires-clause-there g c = subst (HasWord (length c.args.site.now.table.sh
 pub step-requires-clause-lets : goal.step-requires-clause-lets
 step-requires-clause-lets g c = let k = c.args.site.now.table.shared.key in sees g.H.O.Object.object g.H.SiteRule.unavailable g.H.O.Object.WORDS k (g.H.SiteRule.holds k) (g.H.SiteRule.moves k) g.H.OwnerHost.OWNER g.H.OwnerHost.may_be g.H.OwnerHost.may_own g.H.OwnerHost.may_miss g.H.OwnerHost.turned (g.met.H.SiteRule.site_kept k) (g.met.H.OwnerHost.own_kept k) (g.met.H.OwnerHost.owns k) (g.met.H.OwnerHost.own_may k) (g.met.H.OwnerHost.own_looks k) _ _ _ g.A.TryKind.asks g.A.TryKind.counts _ c.OWNER.ensures c.requires.fails
 
-pub returns-clause-own : goal.returns-clause-own
-returns-clause-own g c = let told = saw-word g.H.OwnerHost.turned g.A.TryKind.asks g.A.TryKind.counts (unseen c.args.pass.now.seat.me) (unseen c.step.new.pass.seat.me) c.step.result (c.step.ensures.told) in sits-saw c.args.site.now.table.shared.key c.args.site.now.table.shared.table_id c.args.pass.now.seat.table_id c.step.new.pass.seat.table_id c.args.pass.now.seat.me c.step.new.pass.seat.me c.args.pass.now.face c.step.new.pass.face g.H.OwnerHost.turned g.A.TryKind.asks g.A.TryKind.counts c.step.result c.step.ensures.own.0 told.1 told.0 c.step.ensures.face c.requires.own
+pub returns-clause-on : goal.returns-clause-on
+returns-clause-on g c = record {
+  own = let told = saw-word g.H.OwnerHost.turned g.A.TryKind.asks g.A.TryKind.counts (unseen c.args.pass.now.seat.me) (unseen c.step.new.pass.seat.me) c.step.result (c.step.ensures.told) in sits-saw g.H.OwnerHost.turned g.A.TryKind.asks g.A.TryKind.counts c.step.result c.step.ensures.own.0 told.1 told.0 c.step.ensures.face c.requires.own;
+  goes_on = c.step.ensures.goes_on;
+  last = c.step.ensures.last;
+}
 
 pub returns-clause-saw : goal.returns-clause-saw
 returns-clause-saw g c = (saw-word g.H.OwnerHost.turned g.A.TryKind.asks g.A.TryKind.counts (unseen c.args.pass.now.seat.me) (unseen c.step.new.pass.seat.me) c.step.result (c.step.ensures.told)).0

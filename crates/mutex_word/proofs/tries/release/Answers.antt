@@ -33,21 +33,21 @@ returns-then-found-word-clause-left g c = let r = subst (IsReleased c.loop.word)
 pub returns-then-found-word-clause-unasked : goal.returns-then-found-word-clause-unasked
 returns-then-found-word-clause-unasked g c = let r = subst (IsReleased c.loop.word) c.in-Some-release_step.is (released-flags c.loop.word c.loop.invariant.7.0 c.loop.invariant.7.1 c.release_step.result c.release_step.ensures.flags) in
     unasked-on c.loop.pass.seat.me.0.view c.leave-found.new.pass.seat.me.0.view c.args.pass.now.face.task g.H.OwnerHost.OWNER c.loop.word c.args.pass.now.seat.me.0.view.steps c.args.pass.now.seat.me.0.past c.loop.pass.seat.me.0.past c.leave-found.new.pass.seat.me.0.past
-    (ap (λ (v : View _). v.hand.task) c.loop.invariant.10 ∙ sym c.requires.own.task) c.loop.invariant.11 c.loop.invariant.5 c.loop.invariant.6 r.0 c.loop.invariant.4 c.leave-found.ensures.goes_on (ap (λ (v : View _). v.steps) (c.leave-found.ensures.left c.if-found-word.true))
+    (ap (λ (v : View _). v.hand.task) c.loop.invariant.10 ∙ sym c.requires.own.task) c.loop.invariant.11 c.loop.invariant.5 c.loop.invariant.6 r.0 c.loop.invariant.4 c.leave-found.ensures.on.goes_on (ap (λ (v : View _). v.steps) (c.leave-found.ensures.left c.if-found-word.true))
 
 pub loop-preserved : goal.loop-preserved
 loop-preserved g c = let r = subst (IsReleased c.loop.word) c.in-Some-release_step.is (released-flags c.loop.word c.loop.invariant.7.0 c.loop.invariant.7.1 c.release_step.result c.release_step.ensures.flags) in let kept = c.leave-found.ensures.kept c.if-found-word.false in let later = c.loop.invariant.9 in (
   tt,
   tt,
-  c.leave-found.ensures.own,
+  c.leave-found.ensures.on.own,
   c.leave-found.ensures.face c.if-found-word.false ∙ c.loop.invariant.3,
-  (λ p t. c.leave-found.ensures.goes_on p (c.loop.invariant.4 p t)),
-  c.leave-found.ensures.last,
+  (λ p t. c.leave-found.ensures.on.goes_on p (c.loop.invariant.4 p t)),
+  c.leave-found.ensures.on.last,
   c.leave-found.ensures.found,
   subst (λ (f : Face). IsMine f.task c.leave-found.result) c.loop.invariant.3 (c.leave-found.ensures.mine c.if-found-word.false),
   c.loop.invariant.8 + 1,
   omega (arith, later),
   kept ∙ ap ticked c.loop.invariant.10,
   unasked-on c.loop.pass.seat.me.0.view c.leave-found.new.pass.seat.me.0.view c.args.pass.now.face.task g.H.OwnerHost.OWNER c.loop.word c.args.pass.now.seat.me.0.view.steps c.args.pass.now.seat.me.0.past c.loop.pass.seat.me.0.past c.leave-found.new.pass.seat.me.0.past
-      (ap (λ (v : View _). v.hand.task) c.loop.invariant.10 ∙ sym c.requires.own.task) c.loop.invariant.11 c.loop.invariant.5 c.loop.invariant.6 r.0 c.loop.invariant.4 c.leave-found.ensures.goes_on (ap (λ (v : View _). v.steps) kept),
+      (ap (λ (v : View _). v.hand.task) c.loop.invariant.10 ∙ sym c.requires.own.task) c.loop.invariant.11 c.loop.invariant.5 c.loop.invariant.6 r.0 c.loop.invariant.4 c.leave-found.ensures.on.goes_on (ap (λ (v : View _). v.steps) kept),
 )

@@ -1,11 +1,11 @@
-use Rattle.std.proofs.Common.{◌∙◌, ap, subst, sym, length}
+use Rattle.std.proofs.Common.{◌∙◌, ap, sym, length}
 use Rattle.lock_core.specs.declared.pass.Face.{Face}
 use Rattle.lock_core.specs.declared.view.Held.TheVariants.{No}
-use Rattle.lock_core.specs.Pasts.{IsOwnStep, Tail}
 use Rattle.percpu_rwsem.specs.declared.view.Phase.TheVariants.{Idle}
 use Rattle.percpu_rwsem.proofs.Sitting.{sits-unheld}
 use Rattle.percpu_rwsem.proofs.Having.{has-block}
 use Rattle.percpu_rwsem.proofs.Stepping.{unblocks}
+use Rattle.lock_core.proofs.Sitting.{noted-on}
 use Rattle.percpu_rwsem.proofs.steps.unblock.Goals as goal
 
 pub step-requires-clause-there : goal.step-requires-clause-there
@@ -14,11 +14,5 @@ step-requires-clause-there g c = has-block (length c.args.site.now.table.shared.
 pub step-requires-clause-lets : goal.step-requires-clause-lets
 step-requires-clause-lets g c = unblocks g.O.Object.object g.O.Object.WORDS c.args.site.now.table.shared.key _ _ c.args.task c.requires.blocks.0 _ (sym c.requires.own.task ∙ c.requires.mine) c.requires.blocks.1 (λ z. c.requires.unshared (c.requires.own.held ∙ z)) c.requires.quiet c.requires.own.stage
 
-pub returns-clause-own : goal.returns-clause-own
-returns-clause-own g c = let told = c.step.ensures.told in let seat = c.set_held.ensures.seat in sits-unheld c.args.site.now.table.shared.key c.args.site.now.table.shared.table_id c.args.pass.now.seat.table_id c.set_held.new.self.seat.table_id c.args.pass.now.seat.me c.set_held.new.self.seat.me c.args.pass.now.face c.set_held.new.self.face Idle (ap (λ s. s.me.0.view) seat ∙ told.0) c.requires.quiet (λ z. c.requires.unshared (c.requires.own.held ∙ z)) (ap (λ s. s.table_id) seat ∙ c.step.ensures.own.0) (ap (λ s. s.me.1) seat ∙ told.1) (c.set_held.ensures.face ∙ ap (λ (f : Face). record f { held = No }) c.step.ensures.face) c.requires.own
-
-pub returns-clause-goes_on : goal.returns-clause-goes_on
-returns-clause-goes_on g c = λ p t. subst (Tail p) (sym (ap (λ s. s.me.0.past) c.set_held.ensures.seat)) (c.step.ensures.goes_on p t)
-
-pub returns-clause-last : goal.returns-clause-last
-returns-clause-last g c = subst (λ s. IsOwnStep s.me.0.view s.me.0.past) (sym c.set_held.ensures.seat) c.step.ensures.last
+pub returns-clause-on : goal.returns-clause-on
+returns-clause-on g c = let told = c.step.ensures.told in let seat = c.set_held.ensures.seat in noted-on c.step.new.pass (sits-unheld Idle (ap (λ s. s.me.0.view) seat ∙ told.0) c.requires.quiet (λ z. c.requires.unshared (c.requires.own.held ∙ z)) (ap (λ s. s.table_id) seat ∙ c.step.ensures.own.0) (ap (λ s. s.me.1) seat ∙ told.1) (c.set_held.ensures.face ∙ ap (λ (f : Face). record f { held = No }) c.step.ensures.face) c.requires.own) c.step.ensures.goes_on c.step.ensures.last c.set_held.ensures.seat

@@ -9,7 +9,7 @@ pub returns-clause-begins : goal.returns-clause-begins
 returns-clause-begins g c = c.recall.ensures.run.2
 
 pub returns-clause-always : goal.returns-clause-always
-returns-clause-always g c = let k = c.args.site.now.table.shared.key in let R = g.H.SiteRule in let own = c.recall.ensures.last in
+returns-clause-always g c = let k = c.args.site.now.table.shared.key in let R = g.H.SiteRule in let own = c.recall.ensures.on.last in
     each-lock R.marks (R.holds k) (R.moves k) g.H.SpinHost.LOCKS (length k) g.H.SpinHost.FIRST (g.met.H.SpinHost.spin_kept k) (λ ws vs h. numbers g.H.O.Object.object R.unavailable g.H.O.Object.WORDS k (site k ws) vs (g.met.H.SiteRule.site_kept k ws vs h)) (opening R.marks k R.idle) own.now own.before own.rest _ own.past_is c.recall.ensures.run
 
 pub returns-clause-moves : goal.returns-clause-moves

@@ -15,8 +15,7 @@ step-requires-clause-lets g c = let k = c.args.site.now.table.shared.key in let 
 
 pub returns-clause-steps : goal.returns-clause-steps
 returns-clause-steps g c = let turn = c.step.ensures.told.0 in record {
-  own = sits-on c.args.site.now.table.shared.key c.args.site.now.table.shared.table_id c.args.pass.now.seat.table_id c.step.new.pass.seat.table_id c.args.pass.now.seat.me c.step.new.pass.seat.me c.args.pass.now.face c.step.new.pass.face
-      c.step.ensures.own.0 turn.1 (ap (λ v. v.hand) turn.0) (let n = ap (λ v. v.steps) turn.0 in omega (arith, n)) c.step.ensures.face c.requires.own;
+  own = sits-on c.step.ensures.own.0 turn.1 (ap (λ v. v.hand) turn.0) (let n = ap (λ v. v.steps) turn.0 in omega (arith, n)) c.step.ensures.face c.requires.own;
   face = c.step.ensures.face;
   nest = c.step.ensures.nest;
   goes_on = c.step.ensures.goes_on;

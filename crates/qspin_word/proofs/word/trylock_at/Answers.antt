@@ -1,4 +1,4 @@
-use Rattle.std.proofs.Common.{ℕ, ◌+◌, subst, arith}
+use Rattle.std.proofs.Common.{ℕ, ◌+◌, subst, arith, rules}
 use Rattle.lock_core.specs.Spins.{word_at}
 use Rattle.lock_core.specs.Pasts.{FoundAt}
 use Rattle.lock_core.specs.SiteHandles.{past_of}
@@ -6,8 +6,12 @@ use Rattle.qspin_word.proofs.Noting.{same-past}
 use Rattle.qspin_word.proofs.Going.{first_found, tries-told}
 use Rattle.qspin_word.proofs.word.trylock_at.Goals as goal
 
-pub returns-clause-goes_on : goal.returns-clause-goes_on
-returns-clause-goes_on g c = λ p t. same-past c.exchange_free-found.new.pass c.note.new.pass c.note.ensures.same p (c.exchange_free-found.ensures.steps.goes_on p (c.look-seen.ensures.steps.goes_on p t))
+pub returns-clause-on : goal.returns-clause-on
+returns-clause-on g c = record {
+  own = search rules;
+  goes_on = λ p t. same-past c.exchange_free-found.new.pass c.note.new.pass c.note.ensures.same p (c.exchange_free-found.ensures.steps.goes_on p (c.look-seen.ensures.steps.goes_on p t));
+  last = search rules;
+}
 
 pub returns-clause-told : goal.returns-clause-told
 returns-clause-told g c = λ many told. tries-told c.args.lock c.args.pass.now c.look-seen.new.pass c.exchange_free-found.new.pass c.note.new.pass c.look-seen.result c.exchange_free-found.result c.requires.out (let there = c.requires.there in let eight = g.H.SpinHost.spin_eight in omega (arith, there, eight)) c.args.site.now c.look-seen.ensures.steps c.exchange_free-found.ensures.steps (c.note.ensures.noted many) c.if-found-ne0.false told

@@ -1,11 +1,10 @@
 use Rattle.std.proofs.Common.{◌∙◌, ap, subst, sym, length}
 use Rattle.lock_core.specs.declared.pass.Face.{Face}
 use Rattle.lock_core.specs.declared.view.Held.TheVariants.{No}
-use Rattle.lock_core.specs.Pasts.{IsOwnStep, Tail}
 use Rattle.rwsem_count.specs.declared.view.Bias.TheVariants.{Clear}
 use Rattle.rwsem_count.proofs.Counting.{frees-shared}
-use Rattle.rwsem_count.proofs.Sitting.{has-number, sits-released}
 use Rattle.lock_core.specs.Stores.{HasWord}
+use Rattle.lock_core.proofs.Sitting.{has-number, noted-on, sits-released}
 use Rattle.rwsem_count.proofs.steps.up_read.Goals as goal
 
 pub step-found-requires-clause-there : goal.step-found-requires-clause-there
@@ -14,11 +13,5 @@ step-found-requires-clause-there g c = subst (HasWord (length c.args.site.now.ta
 pub step-found-requires-clause-lets : goal.step-found-requires-clause-lets
 step-found-requires-clause-lets g c = let k = c.args.site.now.table.shared.key in frees-shared g.H.O.Object.object g.H.SiteRule.unavailable g.H.O.Object.WORDS k g.H.CountHost.bias g.H.CountHost.counted (g.H.SiteRule.holds k) (g.H.SiteRule.moves k) g.H.CountHost.COUNT g.H.CountHost.may_be (g.H.CountHost.more k) g.H.CountHost.may_count g.H.CountHost.may_miss (g.met.H.SiteRule.site_kept k) (g.met.H.CountHost.count_kept k) (g.met.H.CountHost.counts k) (g.met.H.CountHost.count_looks k) _ _ _ _ c.COUNT.ensures (has-number _ c.args.pass.now.face.task c.requires.own.task c.requires.numbered) (sym c.requires.own.held ∙ c.requires.holds) c.requires.clear c.requires.quiet c.requires.own.stage c.requires.may
 
-pub returns-clause-own : goal.returns-clause-own
-returns-clause-own g c = let told = c.step-found.ensures.told.4 in sits-released g.H.CountHost.counted c.args.site.now.table.shared.key c.args.site.now.table.shared.table_id c.args.pass.now.seat.table_id c.set_held.new.self.seat.table_id c.args.pass.now.seat.me c.set_held.new.self.seat.me c.args.pass.now.face c.set_held.new.self.face Clear _ (ap (λ s. s.me.0.view) c.set_held.ensures.seat ∙ told.0) c.requires.quiet (ap (λ s. s.table_id) c.set_held.ensures.seat ∙ c.step-found.ensures.own.0) (ap (λ s. s.me.1) c.set_held.ensures.seat ∙ told.1) (c.set_held.ensures.face ∙ ap (λ (f : Face). record f { held = No }) c.step-found.ensures.face) c.requires.own
-
-pub returns-clause-goes_on : goal.returns-clause-goes_on
-returns-clause-goes_on g c = λ p t. subst (Tail p) (sym (ap (λ s. s.me.0.past) c.set_held.ensures.seat)) (c.step-found.ensures.goes_on p t)
-
-pub returns-clause-last : goal.returns-clause-last
-returns-clause-last g c = subst (λ s. IsOwnStep s.me.0.view s.me.0.past) (sym c.set_held.ensures.seat) c.step-found.ensures.last
+pub returns-clause-on : goal.returns-clause-on
+returns-clause-on g c = let told = c.step-found.ensures.told.4 in noted-on c.step-found.new.pass (sits-released {me = c.args.pass.now.seat.me} _ _ (ap (λ s. s.me.0.view) c.set_held.ensures.seat ∙ told.0) c.requires.quiet (ap (λ s. s.table_id) c.set_held.ensures.seat ∙ c.step-found.ensures.own.0) (ap (λ s. s.me.1) c.set_held.ensures.seat ∙ told.1) (c.set_held.ensures.face ∙ ap (λ (f : Face). record f { held = No }) c.step-found.ensures.face) c.requires.own) c.step-found.ensures.goes_on c.step-found.ensures.last c.set_held.ensures.seat

@@ -6,10 +6,10 @@ pub loop-preserved : goal.loop-preserved
 loop-preserved g c = let on = c.if-found-word.false in (
   tt,
   tt,
-  c.take-found.ensures.own,
+  c.take-found.ensures.on.own,
   c.take-found.ensures.face on ∙ c.loop.invariant.3,
-  (λ p t. c.take-found.ensures.goes_on p (c.loop.invariant.4 p t)),
-  c.take-found.ensures.last,
+  (λ p t. c.take-found.ensures.on.goes_on p (c.loop.invariant.4 p t)),
+  c.take-found.ensures.on.last,
   c.take-found.ensures.found,
   saw-again c.args.pass.now.seat.me.0.view c.loop.pass.seat.me.0.view c.take-found.new.pass.seat.me.0.view c.loop.word c.take-found.result c.loop.invariant.7 (c.read_free.ensures.free.0 c.if-not-read_free.false) (c.take-found.ensures.saw on),
 )

@@ -15,6 +15,6 @@ pub returns-clause-woken : goal.returns-clause-woken
 returns-clause-woken g c = let kept = c.consume_pending.ensures.kept in let eats = ap (λ (z : V). z.steps) kept in let sets = c.wake_tasks.ensures.set in let later = sets.later in let leaves = ap (λ (z : V). z.steps) c.unlock.ensures.kept in let tasks = c.tasks.ensures in
     let before = ap (λ (z : V). z.ext.wake.wakes) c.unlock.ensures.kept ∙ (ap (λ (b : SemWake). b.wakes) c.leave.ensures.left.wake ∙ (ap (λ (z : V). z.ext.wake.wakes) kept ∙ sym c.requires.counted.wakes)) in (
       woken_tasks c.leave.new.woken,
-      left-within (woken_tasks c.leave.new.woken) (seen_of c.args.pass.now) (seen_of c.consume_pending.new.pass) (seen_of c.leave.new.pass) (seen_of c.wake_tasks.new.pass) (ap (λ (z : V). z.hand.task) kept) (omega (arith, eats)) c.consume_pending.ensures.goes_on c.leave.ensures.woken (omega (arith, later, leaves)) (λ p t. c.wake_tasks.ensures.goes_on p (c.unlock.ensures.goes_on p t)),
+      left-within (woken_tasks c.leave.new.woken) (seen_of c.args.pass.now) (seen_of c.consume_pending.new.pass) (seen_of c.leave.new.pass) (seen_of c.wake_tasks.new.pass) (ap (λ (z : V). z.hand.task) kept) (omega (arith, eats)) c.consume_pending.ensures.on.goes_on c.leave.ensures.woken (omega (arith, later, leaves)) (λ p t. c.wake_tasks.ensures.goes_on p (c.unlock.ensures.on.goes_on p t)),
       c.wake_tasks.ensures.counted.wakes ∙ (ap (λ (z : V). z.ext.wake.wakes) sets.is ∙ (λ i. slept (length (tasks i)) (before i))),
     )

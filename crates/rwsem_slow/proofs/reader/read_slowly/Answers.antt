@@ -24,7 +24,7 @@ returns-then-steal-clause-took g c = let noted = c.note_reader.ensures.kept in l
 pub returns-then-steal-clause-line : goal.returns-then-steal-clause-line
 returns-then-steal-clause-line g c = let noted = c.note_reader.ensures.kept in let m = c.steal.new.pass.seat.me.0.view in let u = c.wake_beside.new.pass.seat.me.0 in
     shares-on g.O.Object.object c.args.site.now.table.shared.key c.args.pass.now.seat.me.0.view m u.view c.args.pass.now.seat.me.0.past u.past (c.steal.ensures.took c.if-steal.true) (c.wake_beside.ensures.hand ∙ ap (λ (z : V). z.hand) noted)
-    (keeps-line-on m c.note_reader.new.pass.seat.me.0.view u.view noted c.wake_beside.ensures.keeps) c.steal.new.pass.seat.me.0.past c.args.left (c.steal.ensures.let_in c.if-steal.true) (c.steal.ensures.held c.if-steal.true) (λ p t. c.wake_beside.ensures.on.goes_on p (c.note_reader.ensures.goes_on p t))
+    (keeps-line-on m c.note_reader.new.pass.seat.me.0.view u.view noted c.wake_beside.ensures.keeps) c.steal.new.pass.seat.me.0.past c.args.left (c.steal.ensures.let_in c.if-steal.true) (c.steal.ensures.held c.if-steal.true) (λ p t. c.wake_beside.ensures.on.goes_on p (c.note_reader.ensures.on.goes_on p t))
 
 pub read_in_line-requires-clause-transit : goal.read_in_line-requires-clause-transit
 read_in_line-requires-clause-transit g c = still-transit c.args.pass.now.seat.me.0.view c.steal.new.pass.seat.me.0.view (c.steal.ensures.missed c.if-steal.false) c.requires.transit

@@ -41,10 +41,10 @@ clear_grant-requires-clause-task g c = c.requires.tasks c.loop-task.task-index c
 pub loop-task-preserved : goal.loop-task-preserved
 loop-task-preserved g c = let with_sem = g.H.GrantHost.with_sem in let u = c.args.pass.now.seat.me.0.view in let s = g.H.GrantHost.sem u.ext in let v = c.loop-task.pass.seat.me.0.view in let batch = c.args.batch.now in let i = c.loop-task.task-index in
     let after = sem-after with_sem g.H.GrantHost.sem g.H.GrantHost.sem_back u (still_granting s (drop i batch)) v c.loop-task.invariant.kept in let next = drop_more batch i 0 c.loop-task-test.true in let w = c.clear_grant.new.pass.seat.me.0.view in record {
-      own = c.clear_grant.ensures.own;
+      own = c.clear_grant.ensures.on.own;
       face = c.clear_grant.ensures.face ∙ c.loop-task.invariant.face;
-      goes_on = λ p t. c.clear_grant.ensures.goes_on p (c.loop-task.invariant.goes_on p t);
-      last = c.clear_grant.ensures.last;
+      goes_on = λ p t. c.clear_grant.ensures.on.goes_on p (c.loop-task.invariant.goes_on p t);
+      last = c.clear_grant.ensures.on.last;
       later = let more = ap (λ (z : View _). z.steps) c.clear_grant.ensures.kept in let before = c.loop-task.invariant.later in omega (arith, more, before);
       kept = only-more with_sem g.H.GrantHost.sem_over u (still_granting s (drop i batch)) (still_granting s (drop (i + 1) batch)) v w c.loop-task.invariant.kept
           (subst (λ (z : SemHand). OnlySem with_sem v z w) (ap granted after ∙ ap (λ (z : List ℕ). still_granting s (tail z)) next) (only-one-step with_sem v (granted (g.H.GrantHost.sem v.ext)) w c.clear_grant.ensures.kept));

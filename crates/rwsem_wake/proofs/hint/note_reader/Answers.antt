@@ -3,4 +3,4 @@ use Rattle.lock_core.proofs.Sitting.{its-number}
 use Rattle.rwsem_wake.proofs.hint.note_reader.Goals as goal
 
 pub reader_hint-requires : goal.reader_hint-requires
-reader_hint-requires g c = its-number c.args.site.now.table.shared.key c.args.site.now.table.shared.table_id c.args.pass.now.seat.table_id c.args.pass.now.seat.me c.args.pass.now.face c.args.site.now.small c.requires.own c.in-Some.me (sym c.task.ensures ∙ c.in-Some.is)
+reader_hint-requires g c = its-number c.args.site.now.small c.requires.own c.in-Some.me (sym c.task.ensures ∙ c.in-Some.is)

@@ -3,4 +3,4 @@ use Rattle.lock_core.proofs.Sitting.{its-number}
 use Rattle.rwsem_wake.proofs.hint.note_writer.Goals as goal
 
 pub writer_hint-requires : goal.writer_hint-requires
-writer_hint-requires g c = its-number c.args.site.now.table.shared.key c.args.site.now.table.shared.table_id c.args.pass.now.seat.table_id c.args.pass.now.seat.me c.args.pass.now.face c.args.site.now.small c.requires.own c.in-Some.me (sym c.task.ensures ∙ c.in-Some.is)
+writer_hint-requires g c = its-number c.args.site.now.small c.requires.own c.in-Some.me (sym c.task.ensures ∙ c.in-Some.is)

@@ -20,7 +20,10 @@ step-requires-clause-lets g c = let k = c.args.site.now.table.shared.key in let 
     c.args.task few _ _ _ _ (Store 0) (λ n. summing (g.H.GrantHost.sem v.ext)) anything (ap (λ n. n + 8 * c.args.task) c.MARKS.ensures) c.requires.held (λ e. none-some c.args.task (sym e ∙ has))
     (λ n q marks grants sees loc only. let t = on-clear-first sees _ _ _ n q marks grants loc only c.args.task has c.requires.may.stage c.requires.may.knows.knows c.requires.may.knows.first few in (t.0, t.1, wakes-turn-either n q grants sees (sem_part g.H.GrantHost.sem v) (g.H.GrantHost.wake v.ext) n Summing c.requires.may.stage refl, tt))
 
-pub returns-clause-own : goal.returns-clause-own
-returns-clause-own g c = let turn = c.step.ensures.told.1 in
-    sits-on c.args.site.now.table.shared.key c.args.site.now.table.shared.table_id c.args.pass.now.seat.table_id c.step.new.pass.seat.table_id c.args.pass.now.seat.me c.step.new.pass.seat.me c.args.pass.now.face c.step.new.pass.face
-    c.step.ensures.own.0 turn.1 (ap (λ v. v.hand) turn.0) (let n = ap (λ v. v.steps) turn.0 in omega (arith, n)) c.step.ensures.face c.requires.own
+pub returns-clause-on : goal.returns-clause-on
+returns-clause-on g c = record {
+  own = let turn = c.step.ensures.told.1 in
+      sits-on c.step.ensures.own.0 turn.1 (ap (λ v. v.hand) turn.0) (let n = ap (λ v. v.steps) turn.0 in omega (arith, n)) c.step.ensures.face c.requires.own;
+  goes_on = c.step.ensures.goes_on;
+  last = c.step.ensures.last;
+}

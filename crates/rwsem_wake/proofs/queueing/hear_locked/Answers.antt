@@ -2,10 +2,8 @@ use Rattle.std.proofs.Common.{◌∙◌, ◌+◌, ◌*◌, ◌==◌, IsSome, sym
 use Rattle.lock_core.specs.declared.op.Op.TheVariants.{Load}
 use Rattle.lock_core.specs.declared.pass.Face.{Face}
 use Rattle.lock_core.specs.declared.view.Held.TheVariants.{Shared}
-use Rattle.lock_core.specs.Pasts.{IsOwnStep, Tail}
-use Rattle.lock_core.proofs.Sitting.{sits-on}
+use Rattle.lock_core.proofs.Sitting.{noted-on, sits-on, sits-took}
 use Rattle.rwsem_count.specs.declared.view.Bias.TheVariants.{Clear}
-use Rattle.rwsem_count.proofs.Sitting.{sits-took}
 use Rattle.rwsem_wake.specs.Grants.{sem_part, anything}
 use Rattle.rwsem_wake.specs.GrantQueues.{heard_locked}
 use Rattle.rwsem_wake.proofs.WakeKinds.{wakes-hear-locked}
@@ -26,22 +24,17 @@ step-word-requires-clause-lets g c = let k = c.args.site.now.table.shared.key in
     c.args.task few _ _ _ t0 _ Load Shared (λ n. n == 0) (λ n. heard_locked (g.H.GrantHost.sem v.ext) n) (λ n. heard_locked_at n (g.H.GrantHost.wake v.ext)) anything (ap (λ n. n + 8 * c.args.task) c.GRANTS.ensures) has (sym c.requires.own.held ∙ c.requires.out) (λ e. shared-holds e)
     (λ n q marks grants sees loc only. let m = c.requires.may in let t = on-hear-locked sees _ _ _ n q marks grants loc t0 has m.stage m.waits m.clear (sym c.requires.own.held ∙ c.requires.out) (only c.requires.held) in (busy-held v.spin _ c.requires.held, t.0.0, t.0.1, wakes-hear-locked n q grants sees (sem_part g.H.GrantHost.sem v) (g.H.GrantHost.wake v.ext) t0 has m.stage m.waits (sym c.requires.own.held ∙ c.requires.out) c.requires.owes, t.1, tt))
 
-pub returns-then-word-eq0-clause-own : goal.returns-then-word-eq0-clause-own
-returns-then-word-eq0-clause-own g c = let gets = c.step-word.ensures.told.1 (eq-eqb _ _ c.if-word-eq0.true) in
-    sits-took g.H.CountHost.counted c.args.site.now.table.shared.key c.args.site.now.table.shared.table_id c.args.pass.now.seat.table_id c.set_held.new.self.seat.table_id c.args.pass.now.seat.me c.set_held.new.self.seat.me c.args.pass.now.face c.set_held.new.self.face Clear Shared gets.0 gets.1 _ _
-    (ap (λ s. s.me.0.view) c.set_held.ensures.seat ∙ gets.3.0) (omega arith) ((gets.2 c.args.site.now.table.shared.key c.requires.own.plan).within) c.requires.out (subst IsSome (sym c.requires.mine) refl) (ap (λ s. s.table_id) c.set_held.ensures.seat ∙ c.step-word.ensures.own.0) (ap (λ s. s.me.1) c.set_held.ensures.seat ∙ gets.3.1)
-    (c.set_held.ensures.face ∙ ap (λ (f : Face). record f { held = Shared }) c.step-word.ensures.face) c.requires.own
+pub returns-then-word-eq0-clause-on : goal.returns-then-word-eq0-clause-on
+returns-then-word-eq0-clause-on g c = let gets = c.step-word.ensures.told.1 (eq-eqb _ _ c.if-word-eq0.true) in noted-on c.step-word.new.pass (sits-took {me = c.args.pass.now.seat.me} Shared gets.0 gets.1 _ (ap (λ s. s.me.0.view) c.set_held.ensures.seat ∙ gets.3.0) ((gets.2 c.args.site.now.table.shared.key c.requires.own.plan).within) c.requires.out (subst IsSome (sym c.requires.mine) refl) (ap (λ s. s.table_id) c.set_held.ensures.seat ∙ c.step-word.ensures.own.0) (ap (λ s. s.me.1) c.set_held.ensures.seat ∙ gets.3.1)
+    (c.set_held.ensures.face ∙ ap (λ (f : Face). record f { held = Shared }) c.step-word.ensures.face) c.requires.own) c.step-word.ensures.goes_on c.step-word.ensures.last c.set_held.ensures.seat
 
 pub returns-then-word-eq0-clause-took : goal.returns-then-word-eq0-clause-took
 returns-then-word-eq0-clause-took g c = λ is. holds-by g.H.GrantHost.with_sem g.H.GrantHost.with_wake g.H.O.Object.object c.args.site.now.table.shared.key Shared _ _ c.args.pass.now.seat.me c.step-word.new.pass.seat.me c.set_held.new.self.seat.me.0.view c.requires.own.plan (ap (λ s. s.me.0.view) c.set_held.ensures.seat) (c.step-word.ensures.told.1 (eq-eqb _ _ c.if-word-eq0.true))
 
-pub returns-then-word-eq0-clause-goes_on : goal.returns-then-word-eq0-clause-goes_on
-returns-then-word-eq0-clause-goes_on g c = λ p t. subst (Tail p) (sym (ap (λ s. s.me.0.past) c.set_held.ensures.seat)) (c.step-word.ensures.goes_on p t)
-
-pub returns-then-word-eq0-clause-last : goal.returns-then-word-eq0-clause-last
-returns-then-word-eq0-clause-last g c = subst (λ s. IsOwnStep s.me.0.view s.me.0.past) (sym c.set_held.ensures.seat) c.step-word.ensures.last
-
-pub returns-else-word-eq0-clause-own : goal.returns-else-word-eq0-clause-own
-returns-else-word-eq0-clause-own g c = let turn = c.step-word.ensures.told.2 (ne_eqb _ _ c.if-word-eq0.false) in
-    sits-on c.args.site.now.table.shared.key c.args.site.now.table.shared.table_id c.args.pass.now.seat.table_id c.step-word.new.pass.seat.table_id c.args.pass.now.seat.me c.step-word.new.pass.seat.me c.args.pass.now.face c.step-word.new.pass.face
-    c.step-word.ensures.own.0 turn.1 (ap (λ v. v.hand) turn.0) (let n = ap (λ v. v.steps) turn.0 in omega (arith, n)) c.step-word.ensures.face c.requires.own
+pub returns-else-word-eq0-clause-on : goal.returns-else-word-eq0-clause-on
+returns-else-word-eq0-clause-on g c = record {
+  own = let turn = c.step-word.ensures.told.2 (ne_eqb _ _ c.if-word-eq0.false) in
+      sits-on c.step-word.ensures.own.0 turn.1 (ap (λ v. v.hand) turn.0) (let n = ap (λ v. v.steps) turn.0 in omega (arith, n)) c.step-word.ensures.face c.requires.own;
+  goes_on = c.step-word.ensures.goes_on;
+  last = c.step-word.ensures.last;
+}

@@ -1,7 +1,6 @@
 use Rattle.std.proofs.Common.{◌∙◌, ◌+◌, ◌*◌, sym, ap, arith, get_or, length}
 use Rattle.lock_core.specs.declared.op.Op.TheVariants.{Load}
-use Rattle.lock_core.proofs.Sitting.{sits-on}
-use Rattle.rwsem_count.proofs.Sitting.{has-number, some-number}
+use Rattle.lock_core.proofs.Sitting.{has-number, sits-on, some-number}
 use Rattle.rwsem_wake.specs.Grants.{sem_part, unmarked, anything}
 use Rattle.rwsem_wake.proofs.WakeKinds.{wakes-first}
 use Rattle.rwsem_wake.specs.Duties.{saw_mark, sees_itself}
@@ -20,7 +19,10 @@ step-requires-clause-lets g c = let k = c.args.site.now.table.shared.key in let 
     c.args.task few _ _ _ _ Load (λ n. unmarked (g.H.GrantHost.sem v.ext) n) (λ n. saw_mark (sees_itself g.H.ListHost.list v) n (g.H.GrantHost.wake v.ext)) anything (ap (λ n. n + 8 * c.args.task) c.MARKS.ensures) c.requires.held (has-number _ c.args.pass.now.face.task c.requires.own.task c.requires.numbered)
     (λ n q marks grants sees loc only. let t = on-look-first sees _ _ _ n q marks grants loc only own.0 has c.args.task c.requires.may.stage c.requires.may.knows.knows c.requires.may.knows.first in (t.0, t.1, wakes-first n q grants sees (sem_part g.H.GrantHost.sem v) (g.H.GrantHost.wake v.ext) (get_or marks c.args.task 0) (g.H.ListHost.list v.ext).list c.requires.may.stage (loc.list c.requires.may.knows.knows) c.requires.waits, tt))
 
-pub returns-clause-own : goal.returns-clause-own
-returns-clause-own g c = let turn = c.step.ensures.told.1 in
-    sits-on c.args.site.now.table.shared.key c.args.site.now.table.shared.table_id c.args.pass.now.seat.table_id c.step.new.pass.seat.table_id c.args.pass.now.seat.me c.step.new.pass.seat.me c.args.pass.now.face c.step.new.pass.face
-    c.step.ensures.own.0 turn.1 (ap (λ v. v.hand) turn.0) (let n = ap (λ v. v.steps) turn.0 in omega (arith, n)) c.step.ensures.face c.requires.own
+pub returns-clause-on : goal.returns-clause-on
+returns-clause-on g c = record {
+  own = let turn = c.step.ensures.told.1 in
+      sits-on c.step.ensures.own.0 turn.1 (ap (λ v. v.hand) turn.0) (let n = ap (λ v. v.steps) turn.0 in omega (arith, n)) c.step.ensures.face c.requires.own;
+  goes_on = c.step.ensures.goes_on;
+  last = c.step.ensures.last;
+}

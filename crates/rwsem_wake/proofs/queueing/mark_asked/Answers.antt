@@ -1,7 +1,6 @@
 use Rattle.std.proofs.Common.{◌∙◌, ◌+◌, ◌*◌, sym, ap, arith, refl, inl, length}
 use Rattle.lock_core.specs.declared.op.Op.TheVariants.{Store}
-use Rattle.lock_core.proofs.Sitting.{sits-on}
-use Rattle.rwsem_count.proofs.Sitting.{has-number, some-number}
+use Rattle.lock_core.proofs.Sitting.{has-number, sits-on, some-number}
 use Rattle.rwsem_wake.specs.Grants.{sem_part, anything}
 use Rattle.rwsem_wake.specs.GrantQueues.{rested}
 use Rattle.rwsem_wake.proofs.WakeKinds.{wakes-turn}
@@ -22,7 +21,10 @@ step-requires-clause-lets g c = let k = c.args.site.now.table.shared.key in let 
     c.args.task few _ _ _ _ (Store 1) (λ n. rested (g.H.GrantHost.sem v.ext)) anything (ap (λ n. n + 8 * c.args.task) c.MARKS.ensures) c.requires.held (has-number _ c.args.pass.now.face.task c.requires.own.task c.requires.numbered)
     (λ n q marks grants sees loc only. let t = on-mark-asked sees _ _ _ n q marks grants loc only own.0 has c.args.task c.requires.asked c.requires.writes c.requires.clear c.requires.first.knows c.requires.first.first few in (t.0, t.1, wakes-turn n q grants sees (sem_part g.H.GrantHost.sem v) (g.H.GrantHost.wake v.ext) n Marking Rest c.requires.asked (λ m. refl) refl (inl (ap overdue_weight c.requires.clear)), tt))
 
-pub returns-clause-own : goal.returns-clause-own
-returns-clause-own g c = let turn = c.step.ensures.told.1 in
-    sits-on c.args.site.now.table.shared.key c.args.site.now.table.shared.table_id c.args.pass.now.seat.table_id c.step.new.pass.seat.table_id c.args.pass.now.seat.me c.step.new.pass.seat.me c.args.pass.now.face c.step.new.pass.face
-    c.step.ensures.own.0 turn.1 (ap (λ v. v.hand) turn.0) (let n = ap (λ v. v.steps) turn.0 in omega (arith, n)) c.step.ensures.face c.requires.own
+pub returns-clause-on : goal.returns-clause-on
+returns-clause-on g c = record {
+  own = let turn = c.step.ensures.told.1 in
+      sits-on c.step.ensures.own.0 turn.1 (ap (λ v. v.hand) turn.0) (let n = ap (λ v. v.steps) turn.0 in omega (arith, n)) c.step.ensures.face c.requires.own;
+  goes_on = c.step.ensures.goes_on;
+  last = c.step.ensures.last;
+}

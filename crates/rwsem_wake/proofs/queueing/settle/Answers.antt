@@ -3,10 +3,9 @@ use Rattle.word_bits.specs.LockWords.{IsLawfulCount}
 use Rattle.lock_core.specs.declared.op.Op.TheVariants.{Load}
 use Rattle.lock_core.specs.declared.pass.Face.{Face}
 use Rattle.lock_core.specs.declared.view.Held.TheVariants.{Shared}
-use Rattle.lock_core.specs.Pasts.{FoundAt, IsOwnStep, Tail}
-use Rattle.lock_core.proofs.Sitting.{sits-on}
+use Rattle.lock_core.specs.Pasts.{FoundAt}
+use Rattle.lock_core.proofs.Sitting.{noted-on, sits-on, sits-took, some-number}
 use Rattle.rwsem_count.specs.declared.view.Bias.TheVariants.{Clear}
-use Rattle.rwsem_count.proofs.Sitting.{some-number, sits-took}
 use Rattle.rwsem_wake.specs.GrantQueues.{settled}
 use Rattle.rwsem_wake.proofs.WakeKinds.{wakes-settle}
 use Rattle.rwsem_wake.specs.Grants.{sem_part}
@@ -26,22 +25,17 @@ step-requires-clause-lets g c = let k = c.args.site.now.table.shared.key in let 
     _ _ _ t0 _ Load Shared (λ n. n % 2 == 0) (λ n. settled (g.H.GrantHost.sem v.ext) n) (λ n. (g.H.GrantHost.wake v.ext)) IsLawfulCount c.COUNT.ensures has (sym c.requires.own.held ∙ c.requires.out) (λ e. shared-holds e)
     (λ n q marks grants sees loc only. let m = c.requires.may in let t = on-settle sees _ _ _ n q marks grants loc (only c.requires.held) t0 has m.transit.0 m.stage m.waits m.transit.1 (sym c.requires.own.held ∙ c.requires.out) m.knows m.nobody in (busy-held v.spin _ c.requires.held, t.0.0, t.0.1, wakes-settle n q grants sees (sem_part g.H.GrantHost.sem v) (g.H.GrantHost.wake v.ext) _ m.transit.0 m.stage m.transit.1 (sym c.requires.own.held ∙ c.requires.out), t.1, t.2))
 
-pub returns-then-free-clause-own : goal.returns-then-free-clause-own
-returns-then-free-clause-own g c = let gets = c.step.ensures.told.1 (eq-eqb _ _ (flag-clear c.has_writer-free.result c.step.result c.has_writer-free.ensures c.if-free.true)) in
-    sits-took g.H.CountHost.counted c.args.site.now.table.shared.key c.args.site.now.table.shared.table_id c.args.pass.now.seat.table_id c.set_held.new.self.seat.table_id c.args.pass.now.seat.me c.set_held.new.self.seat.me c.args.pass.now.face c.set_held.new.self.face Clear Shared gets.0 gets.1 _ _
-    (ap (λ s. s.me.0.view) c.set_held.ensures.seat ∙ gets.3.0) (omega arith) ((gets.2 c.args.site.now.table.shared.key c.requires.own.plan).within) c.requires.out c.requires.numbered (ap (λ s. s.table_id) c.set_held.ensures.seat ∙ c.step.ensures.own.0) (ap (λ s. s.me.1) c.set_held.ensures.seat ∙ gets.3.1)
-    (c.set_held.ensures.face ∙ ap (λ (f : Face). record f { held = Shared }) c.step.ensures.face) c.requires.own
+pub returns-then-free-clause-on : goal.returns-then-free-clause-on
+returns-then-free-clause-on g c = let gets = c.step.ensures.told.1 (eq-eqb _ _ (flag-clear c.has_writer-free.result c.step.result c.has_writer-free.ensures c.if-free.true)) in noted-on c.step.new.pass (sits-took {me = c.args.pass.now.seat.me} Shared gets.0 gets.1 _ (ap (λ s. s.me.0.view) c.set_held.ensures.seat ∙ gets.3.0) ((gets.2 c.args.site.now.table.shared.key c.requires.own.plan).within) c.requires.out c.requires.numbered (ap (λ s. s.table_id) c.set_held.ensures.seat ∙ c.step.ensures.own.0) (ap (λ s. s.me.1) c.set_held.ensures.seat ∙ gets.3.1)
+    (c.set_held.ensures.face ∙ ap (λ (f : Face). record f { held = Shared }) c.step.ensures.face) c.requires.own) c.step.ensures.goes_on c.step.ensures.last c.set_held.ensures.seat
 
 pub returns-then-free-clause-took : goal.returns-then-free-clause-took
 returns-then-free-clause-took g c = λ is. (c.step.result, subst (λ (p : ℕ). FoundAt p c.step.result c.set_held.new.self.seat.me.0.past) c.COUNT.ensures (subst (FoundAt _ _) (sym (ap (λ s. s.me.0.past) c.set_held.ensures.seat)) c.step.ensures.found), flag-clear c.has_writer-free.result c.step.result c.has_writer-free.ensures c.if-free.true, holds-by g.H.GrantHost.with_sem g.H.GrantHost.with_wake g.H.O.Object.object c.args.site.now.table.shared.key Shared _ _ c.args.pass.now.seat.me c.step.new.pass.seat.me c.set_held.new.self.seat.me.0.view c.requires.own.plan (ap (λ s. s.me.0.view) c.set_held.ensures.seat) (c.step.ensures.told.1 (eq-eqb _ _ (flag-clear c.has_writer-free.result c.step.result c.has_writer-free.ensures c.if-free.true))))
 
-pub returns-then-free-clause-goes_on : goal.returns-then-free-clause-goes_on
-returns-then-free-clause-goes_on g c = λ p t. subst (Tail p) (sym (ap (λ s. s.me.0.past) c.set_held.ensures.seat)) (c.step.ensures.goes_on p t)
-
-pub returns-then-free-clause-last : goal.returns-then-free-clause-last
-returns-then-free-clause-last g c = subst (λ s. IsOwnStep s.me.0.view s.me.0.past) (sym c.set_held.ensures.seat) c.step.ensures.last
-
-pub returns-else-free-clause-own : goal.returns-else-free-clause-own
-returns-else-free-clause-own g c = let turn = c.step.ensures.told.2 (ne_eqb _ _ (λ even. let odd = c.has_writer-free.ensures.0 c.if-free.false in omega (arith, even, odd))) in
-    sits-on c.args.site.now.table.shared.key c.args.site.now.table.shared.table_id c.args.pass.now.seat.table_id c.step.new.pass.seat.table_id c.args.pass.now.seat.me c.step.new.pass.seat.me c.args.pass.now.face c.step.new.pass.face
-    c.step.ensures.own.0 turn.1 (ap (λ v. v.hand) turn.0) (let n = ap (λ v. v.steps) turn.0 in omega (arith, n)) c.step.ensures.face c.requires.own
+pub returns-else-free-clause-on : goal.returns-else-free-clause-on
+returns-else-free-clause-on g c = record {
+  own = let turn = c.step.ensures.told.2 (ne_eqb _ _ (λ even. let odd = c.has_writer-free.ensures.0 c.if-free.false in omega (arith, even, odd))) in
+      sits-on c.step.ensures.own.0 turn.1 (ap (λ v. v.hand) turn.0) (let n = ap (λ v. v.steps) turn.0 in omega (arith, n)) c.step.ensures.face c.requires.own;
+  goes_on = c.step.ensures.goes_on;
+  last = c.step.ensures.last;
+}

@@ -3,10 +3,8 @@ use Rattle.word_bits.specs.LockWords.{IsLawfulCount}
 use Rattle.lock_core.specs.declared.op.Op.TheVariants.{Exchange}
 use Rattle.lock_core.specs.declared.pass.Face.{Face}
 use Rattle.lock_core.specs.declared.view.Held.TheVariants.{Alone}
-use Rattle.lock_core.specs.Pasts.{IsOwnStep, Tail}
-use Rattle.lock_core.proofs.Sitting.{sits-on}
+use Rattle.lock_core.proofs.Sitting.{noted-on, sits-on, sits-took}
 use Rattle.rwsem_count.specs.declared.view.Bias.TheVariants.{Clear}
-use Rattle.rwsem_count.proofs.Sitting.{sits-took}
 use Rattle.rwsem_wake.specs.GrantQueues.{taken}
 use Rattle.rwsem_wake.proofs.WakeKinds.{wakes-take}
 use Rattle.rwsem_wake.specs.Grants.{sem_part}
@@ -26,22 +24,17 @@ step-found-requires-clause-lets g c = let k = c.args.site.now.table.shared.key i
     _ _ _ t0 _ (Exchange c.args.old c.args.new) Alone (λ n. n == c.args.old) (λ n. taken (g.H.GrantHost.sem v.ext) c.args.old n) (λ n. exchanged c.args.old n (g.H.GrantHost.wake v.ext)) IsLawfulCount c.COUNT.ensures has (sym c.requires.own.held ∙ c.requires.out) (λ e. alone-holds e)
     (λ n q marks grants sees loc only. let m = c.requires.may in let t = on-take sees _ _ _ n q marks grants loc (only c.requires.held) t0 has (sym c.requires.own.held ∙ c.requires.out) m.writes m.clear m.rest m.knows m.waiting c.args.alone c.args.old c.args.new m.only m.may m.free m.flags in (busy-held v.spin _ c.requires.held, t.0.0, t.0.1, wakes-take n q grants sees (sem_part g.H.GrantHost.sem v) (g.H.GrantHost.wake v.ext) _ c.args.old (only c.requires.held) m.may m.writes m.clear (sym c.requires.own.held ∙ c.requires.out), t.1, t.2))
 
-pub returns-then-found-old-clause-own : goal.returns-then-found-old-clause-own
-returns-then-found-old-clause-own g c = let gets = c.step-found.ensures.told.1 (eq-eqb _ _ c.if-found-old.true) in
-    sits-took g.H.CountHost.counted c.args.site.now.table.shared.key c.args.site.now.table.shared.table_id c.args.pass.now.seat.table_id c.set_held.new.self.seat.table_id c.args.pass.now.seat.me c.set_held.new.self.seat.me c.args.pass.now.face c.set_held.new.self.face Clear Alone gets.0 gets.1 _ _
-    (ap (λ s. s.me.0.view) c.set_held.ensures.seat ∙ gets.3.0) (omega arith) ((gets.2 c.args.site.now.table.shared.key c.requires.own.plan).within) c.requires.out (subst IsSome (sym c.requires.mine) refl) (ap (λ s. s.table_id) c.set_held.ensures.seat ∙ c.step-found.ensures.own.0) (ap (λ s. s.me.1) c.set_held.ensures.seat ∙ gets.3.1)
-    (c.set_held.ensures.face ∙ ap (λ (f : Face). record f { held = Alone }) c.step-found.ensures.face) c.requires.own
+pub returns-then-found-old-clause-on : goal.returns-then-found-old-clause-on
+returns-then-found-old-clause-on g c = let gets = c.step-found.ensures.told.1 (eq-eqb _ _ c.if-found-old.true) in noted-on c.step-found.new.pass (sits-took {me = c.args.pass.now.seat.me} Alone gets.0 gets.1 _ (ap (λ s. s.me.0.view) c.set_held.ensures.seat ∙ gets.3.0) ((gets.2 c.args.site.now.table.shared.key c.requires.own.plan).within) c.requires.out (subst IsSome (sym c.requires.mine) refl) (ap (λ s. s.table_id) c.set_held.ensures.seat ∙ c.step-found.ensures.own.0) (ap (λ s. s.me.1) c.set_held.ensures.seat ∙ gets.3.1)
+    (c.set_held.ensures.face ∙ ap (λ (f : Face). record f { held = Alone }) c.step-found.ensures.face) c.requires.own) c.step-found.ensures.goes_on c.step-found.ensures.last c.set_held.ensures.seat
 
 pub returns-then-found-old-clause-took : goal.returns-then-found-old-clause-took
 returns-then-found-old-clause-took g c = λ is. holds-by g.H.GrantHost.with_sem g.H.GrantHost.with_wake g.H.O.Object.object c.args.site.now.table.shared.key Alone _ _ c.args.pass.now.seat.me c.step-found.new.pass.seat.me c.set_held.new.self.seat.me.0.view c.requires.own.plan (ap (λ s. s.me.0.view) c.set_held.ensures.seat) (c.step-found.ensures.told.1 (eq-eqb _ _ c.if-found-old.true))
 
-pub returns-then-found-old-clause-goes_on : goal.returns-then-found-old-clause-goes_on
-returns-then-found-old-clause-goes_on g c = λ p t. subst (Tail p) (sym (ap (λ s. s.me.0.past) c.set_held.ensures.seat)) (c.step-found.ensures.goes_on p t)
-
-pub returns-then-found-old-clause-last : goal.returns-then-found-old-clause-last
-returns-then-found-old-clause-last g c = subst (λ s. IsOwnStep s.me.0.view s.me.0.past) (sym c.set_held.ensures.seat) c.step-found.ensures.last
-
-pub returns-else-found-old-clause-own : goal.returns-else-found-old-clause-own
-returns-else-found-old-clause-own g c = let turn = c.step-found.ensures.told.2 (ne_eqb _ _ c.if-found-old.false) in
-    sits-on c.args.site.now.table.shared.key c.args.site.now.table.shared.table_id c.args.pass.now.seat.table_id c.step-found.new.pass.seat.table_id c.args.pass.now.seat.me c.step-found.new.pass.seat.me c.args.pass.now.face c.step-found.new.pass.face
-    c.step-found.ensures.own.0 turn.1 (ap (λ v. v.hand) turn.0) (let n = ap (λ v. v.steps) turn.0 in omega (arith, n)) c.step-found.ensures.face c.requires.own
+pub returns-else-found-old-clause-on : goal.returns-else-found-old-clause-on
+returns-else-found-old-clause-on g c = record {
+  own = let turn = c.step-found.ensures.told.2 (ne_eqb _ _ c.if-found-old.false) in
+      sits-on c.step-found.ensures.own.0 turn.1 (ap (λ v. v.hand) turn.0) (let n = ap (λ v. v.steps) turn.0 in omega (arith, n)) c.step-found.ensures.face c.requires.own;
+  goes_on = c.step-found.ensures.goes_on;
+  last = c.step-found.ensures.last;
+}

@@ -1,8 +1,7 @@
 use Rattle.std.proofs.Common.{◌∙◌, ◌≤◌, sym, ap, arith, ◌-◌, subst, length}
 use Rattle.word_bits.specs.LockWords.{IsLawfulCount}
 use Rattle.lock_core.specs.declared.op.Op.TheVariants.{Sub}
-use Rattle.lock_core.proofs.Sitting.{sits-on}
-use Rattle.rwsem_count.proofs.Sitting.{has-number, some-number}
+use Rattle.lock_core.proofs.Sitting.{has-number, sits-on, some-number}
 use Rattle.rwsem_wake.specs.Grants.{sem_part, unreserved}
 use Rattle.rwsem_wake.proofs.WakeKinds.{wakes-back}
 use Rattle.rwsem_wake.specs.Duties.{left_by}
@@ -20,7 +19,10 @@ step-requires-clause-lets g c = let k = c.args.site.now.table.shared.key in let 
     _ _ _ _ (Sub c.bias_but_waiters-less.result) (λ n. unreserved (g.H.GrantHost.sem v.ext)) (λ n. left_by (n - c.bias_but_waiters-less.result) (g.H.GrantHost.wake v.ext)) (λ n. IsLawfulCount n × (256 ≤ n)) c.COUNT.ensures c.requires.held (has-number _ c.args.pass.now.face.task c.requires.own.task c.requires.numbered)
     (λ n q marks grants sees loc only. let t = on-back sees _ _ _ n q marks grants loc only own.0 has c.requires.transit.0 c.bias_but_waiters-less.result c.args.alone c.requires.joined c.requires.transit.1 c.bias_but_waiters-less.ensures in (t.0.0, t.0.1, wakes-back n q grants sees (sem_part g.H.GrantHost.sem v) (g.H.GrantHost.wake v.ext) _ c.requires.transit.0 c.bias_but_waiters-less.result only c.requires.transit.1 c.requires.clear (let low = loc.lawful.0 in let high = loc.lawful.1 in let least = t.2 in let less = c.bias_but_waiters-less.ensures in omega (arith, low, high, least, less)), (t.1, t.2)))
 
-pub returns-clause-own : goal.returns-clause-own
-returns-clause-own g c = let turn = c.step.ensures.told.1 in
-    sits-on c.args.site.now.table.shared.key c.args.site.now.table.shared.table_id c.args.pass.now.seat.table_id c.step.new.pass.seat.table_id c.args.pass.now.seat.me c.step.new.pass.seat.me c.args.pass.now.face c.step.new.pass.face
-    c.step.ensures.own.0 turn.1 (ap (λ v. v.hand) turn.0) (let n = ap (λ v. v.steps) turn.0 in omega (arith, n)) c.step.ensures.face c.requires.own
+pub returns-clause-on : goal.returns-clause-on
+returns-clause-on g c = record {
+  own = let turn = c.step.ensures.told.1 in
+      sits-on c.step.ensures.own.0 turn.1 (ap (λ v. v.hand) turn.0) (let n = ap (λ v. v.steps) turn.0 in omega (arith, n)) c.step.ensures.face c.requires.own;
+  goes_on = c.step.ensures.goes_on;
+  last = c.step.ensures.last;
+}

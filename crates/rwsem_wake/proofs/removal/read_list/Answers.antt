@@ -23,10 +23,10 @@ returns-in-None-clause-read g c = let v = c.args.pass.now.seat.me.0.view in
 
 pub walk-preserved : goal.walk-preserved
 walk-preserved g c = let v = c.args.pass.now.seat.me.0.view in record {
-  own = c.next.ensures.own;
+  own = c.next.ensures.on.own;
   face = c.next.ensures.face ∙ c.walk.invariant.face;
-  goes_on = λ p t. c.next.ensures.goes_on p (c.walk.invariant.goes_on p t);
-  latest = c.next.ensures.last;
+  goes_on = λ p t. c.next.ensures.on.goes_on p (c.walk.invariant.goes_on p t);
+  latest = c.next.ensures.on.last;
   later = let a = c.next.ensures.later in let b = c.walk.invariant.later in omega (arith, a, b);
   kept = walk-steps v c.walk.pass.seat.me.0.view c.requires.list c.walk.invariant.kept c.walk.last.task (Some c.in-Some.next) c.next.new.pass.seat.me.0.view (finds-next g.H.ListHost.list g.H.ListHost.with_list g.met.H.WakeHost.list_parts.0 g.met.H.WakeHost.list_parts.1 c.walk.pass.seat.me.0.view c.walk.last.task (Some c.in-Some.next) c.next.new.pass.seat.me.0.view c.in-Some.ensures.told);
   along = along-on v.ext.list.list c.walk.waiters.items c.walk.last c.walk.invariant.along c.in-Some.next _ c.requires.list.sound.once (walk-next v c.walk.pass.seat.me.0.view c.requires.list c.walk.invariant.kept c.walk.last.task (Some c.in-Some.next) c.next.new.pass.seat.me.0.view (finds-next g.H.ListHost.list g.H.ListHost.with_list g.met.H.WakeHost.list_parts.0 g.met.H.WakeHost.list_parts.1 c.walk.pass.seat.me.0.view c.walk.last.task (Some c.in-Some.next) c.next.new.pass.seat.me.0.view c.in-Some.ensures.told)) c.push-in-Some.ensures.items;

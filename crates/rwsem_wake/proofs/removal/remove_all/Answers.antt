@@ -3,7 +3,7 @@ use Rattle.lock_core.specs.declared.view.SpinHand.{SpinHand}
 use Rattle.wait_list.specs.declared.view.Change.TheVariants.{Leave}
 use Rattle.wait_list.specs.Lists.{AllowsChange, IsStill}
 use Rattle.wait_list.specs.declared.view.ListHand.{ListHand}
-use Rattle.rwsem_count.proofs.Sitting.{some-number}
+use Rattle.lock_core.proofs.Sitting.{some-number}
 use Rattle.rwsem_wake.specs.declared.view.RwSemHand.{RwSemHand}
 use Rattle.rwsem_wake.proofs.Hosting.{removes}
 use Rattle.rwsem_wake.proofs.Removing.{removed-all, removed-may, removed-none, removed-one}
@@ -34,10 +34,10 @@ remove-requires-clause-host g c = let own = some-number c.args.pass.now.face.tas
 
 pub loop-task-preserved : goal.loop-task-preserved
 loop-task-preserved g c = record {
-  own = c.remove.ensures.own;
+  own = c.remove.ensures.on.own;
   face = c.remove.ensures.face ∙ c.loop-task.invariant.face;
-  goes_on = λ p t. c.remove.ensures.goes_on p (c.loop-task.invariant.goes_on p t);
-  last = c.remove.ensures.last;
+  goes_on = λ p t. c.remove.ensures.on.goes_on p (c.loop-task.invariant.goes_on p t);
+  last = c.remove.ensures.on.last;
   removed = removed-one c.args.pass.now.seat.me.0.view c.args.batch.now c.loop-task.task-index c.loop-task.pass.seat.me.0.view c.loop-task.invariant.removed c.loop-task-test.true c.remove.new.pass.seat.me.0.view c.remove.ensures.later (removes g.H.ListHost.list g.H.ListHost.with_list g.met.H.WakeHost.list_parts.0 g.met.H.WakeHost.list_parts.1 c.loop-task.pass.seat.me.0.view (get_or c.args.batch.now c.loop-task.task-index 0) c.remove.new.pass.seat.me.0.view c.remove.ensures.kept);
 }
 

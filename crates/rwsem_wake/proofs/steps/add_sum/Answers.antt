@@ -1,6 +1,5 @@
 use Rattle.std.proofs.Common.{◌∙◌, sym, ap, arith, subst, length}
-use Rattle.lock_core.proofs.Sitting.{sits-on}
-use Rattle.rwsem_count.proofs.Sitting.{has-number, some-number}
+use Rattle.lock_core.proofs.Sitting.{has-number, sits-on, some-number}
 use Rattle.rwsem_wake.specs.Grants.{sem_part, anything, counted}
 use Rattle.rwsem_wake.proofs.WakeKinds.{wakes-sum}
 use Rattle.rwsem_wake.proofs.Stepping.{count-does}
@@ -17,7 +16,10 @@ step-requires-clause-lets g c = let k = c.args.site.now.table.shared.key in let 
     _ _ _ _ c.gain_and_lose.result (λ n. counted (g.H.GrantHost.sem v.ext)) anything c.COUNT.ensures c.requires.held (has-number _ c.args.pass.now.face.task c.requires.own.task c.requires.numbered)
     (λ n q marks grants sees loc only. let t = on-sum sees _ _ _ n q marks grants loc only own.0 has c.args.gain c.args.loss c.gain_and_lose.result c.gain_and_lose.ensures c.requires.sum.handoff c.requires.sum.stage c.requires.keeps.0 c.requires.keeps.1 c.requires.knows c.requires.sum.some c.requires.sum.few c.requires.sum.is in (t.0.0, t.0.1, wakes-sum n q grants sees (sem_part g.H.GrantHost.sem v) (g.H.GrantHost.wake v.ext) _ c.requires.sum.handoff c.requires.sum.stage c.requires.keeps.1 c.requires.keeps.2 c.requires.sum.some, tt))
 
-pub returns-clause-own : goal.returns-clause-own
-returns-clause-own g c = let turn = c.step.ensures.told.1 in
-    sits-on c.args.site.now.table.shared.key c.args.site.now.table.shared.table_id c.args.pass.now.seat.table_id c.step.new.pass.seat.table_id c.args.pass.now.seat.me c.step.new.pass.seat.me c.args.pass.now.face c.step.new.pass.face
-    c.step.ensures.own.0 turn.1 (ap (λ v. v.hand) turn.0) (let n = ap (λ v. v.steps) turn.0 in omega (arith, n)) c.step.ensures.face c.requires.own
+pub returns-clause-on : goal.returns-clause-on
+returns-clause-on g c = record {
+  own = let turn = c.step.ensures.told.1 in
+      sits-on c.step.ensures.own.0 turn.1 (ap (λ v. v.hand) turn.0) (let n = ap (λ v. v.steps) turn.0 in omega (arith, n)) c.step.ensures.face c.requires.own;
+  goes_on = c.step.ensures.goes_on;
+  last = c.step.ensures.last;
+}

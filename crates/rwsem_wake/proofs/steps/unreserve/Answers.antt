@@ -1,8 +1,7 @@
 use Rattle.std.proofs.Common.{◌∙◌, ◌/◌, ◌%◌, ◌==◌, sym, ap, arith, refl, subst, length}
 use Rattle.word_bits.specs.LockWords.{IsLawfulCount}
 use Rattle.lock_core.specs.declared.op.Op.TheVariants.{Sub}
-use Rattle.lock_core.proofs.Sitting.{sits-on}
-use Rattle.rwsem_count.proofs.Sitting.{has-number, some-number}
+use Rattle.lock_core.proofs.Sitting.{has-number, sits-on, some-number}
 use Rattle.rwsem_wake.specs.Grants.{sem_part, unreserved}
 use Rattle.rwsem_wake.proofs.WakeKinds.{wakes-return}
 use Rattle.rwsem_wake.specs.declared.view.Stage.TheVariants.{Overdue}
@@ -20,7 +19,10 @@ step-requires-clause-lets g c = let k = c.args.site.now.table.shared.key in let 
     _ _ _ _ (Sub 256) (λ n. unreserved (g.H.GrantHost.sem v.ext)) IsLawfulCount c.COUNT.ensures c.requires.held (has-number _ c.args.pass.now.face.task c.requires.own.task c.requires.numbered)
     (λ n q marks grants sees loc only. let t = on-unreserve sees _ _ _ n q marks grants loc only own.0 has c.requires.written.0 (c.requires.written.0 / 4 % 2 == 1) c.requires.written.1.1 c.requires.written.1.0 in (t.0.0, t.0.1, wakes-return n q grants sees (sem_part g.H.GrantHost.sem v) (g.H.GrantHost.wake v.ext) _ c.requires.written.0 (Overdue (c.requires.written.0 / 4 % 2 == 1)) only c.requires.written.1.1 (λ m. refl) c.requires.written.1.0 c.requires.written.2, t.1))
 
-pub returns-clause-own : goal.returns-clause-own
-returns-clause-own g c = let turn = c.step.ensures.told.1 in
-    sits-on c.args.site.now.table.shared.key c.args.site.now.table.shared.table_id c.args.pass.now.seat.table_id c.step.new.pass.seat.table_id c.args.pass.now.seat.me c.step.new.pass.seat.me c.args.pass.now.face c.step.new.pass.face
-    c.step.ensures.own.0 turn.1 (ap (λ v. v.hand) turn.0) (let n = ap (λ v. v.steps) turn.0 in omega (arith, n)) c.step.ensures.face c.requires.own
+pub returns-clause-on : goal.returns-clause-on
+returns-clause-on g c = record {
+  own = let turn = c.step.ensures.told.1 in
+      sits-on c.step.ensures.own.0 turn.1 (ap (λ v. v.hand) turn.0) (let n = ap (λ v. v.steps) turn.0 in omega (arith, n)) c.step.ensures.face c.requires.own;
+  goes_on = c.step.ensures.goes_on;
+  last = c.step.ensures.last;
+}

@@ -15,11 +15,11 @@ reserve-seen-requires-clause-may g c = subst (λ (z : (RwSemHand → ListHand) �
 
 pub returns-then-has_writer-clause-saw : goal.returns-then-has_writer-clause-saw
 returns-then-has_writer-clause-saw g c = let e = c.reserve-seen.ensures in let steps = ap (λ (z : V). z.steps) e.kept in let more = c.back_out.ensures.later in
-    saw-writer true c.reserve-seen.result c.args.pass.now.seat.me.0.view c.reserve-seen.new.pass.seat.me.0.view c.back_out.new.pass.seat.me.0.view c.args.pass.now.seat.me.0.past c.reserve-seen.new.pass.seat.me.0.past c.back_out.new.pass.seat.me.0.past (c.has_writer.ensures.0 c.if-has_writer.true) (ap (λ (z : V). z.hand.task) e.kept) (omega (arith, steps)) (omega (arith, more)) e.last (subst (λ (place : ℕ). FoundAt place c.reserve-seen.result c.reserve-seen.new.pass.seat.me.0.past) g.met.H.WakeHost.places.0 e.found) e.goes_on (c.back_out.ensures.goes_on)
+    saw-writer true c.reserve-seen.result c.args.pass.now.seat.me.0.view c.reserve-seen.new.pass.seat.me.0.view c.back_out.new.pass.seat.me.0.view c.args.pass.now.seat.me.0.past c.reserve-seen.new.pass.seat.me.0.past c.back_out.new.pass.seat.me.0.past (c.has_writer.ensures.0 c.if-has_writer.true) (ap (λ (z : V). z.hand.task) e.kept) (omega (arith, steps)) (omega (arith, more)) e.on.last (subst (λ (place : ℕ). FoundAt place c.reserve-seen.result c.reserve-seen.new.pass.seat.me.0.past) g.met.H.WakeHost.places.0 e.found) e.on.goes_on (c.back_out.ensures.on.goes_on)
 
 pub returns-clause-saw : goal.returns-clause-saw
 returns-clause-saw g c = let e = c.reserve-seen.ensures in let steps = ap (λ (z : V). z.steps) e.kept in let hint = ap (λ (z : V). z.steps) c.set_hint.ensures.kept in let granted = c.grant.ensures.granted.beside.later in let more : c.reserve-seen.new.pass.seat.me.0.view.steps ≤ c.grant.new.pass.seat.me.0.view.steps = omega (arith, hint, granted) in
-    saw-writer false c.reserve-seen.result c.args.pass.now.seat.me.0.view c.reserve-seen.new.pass.seat.me.0.view c.grant.new.pass.seat.me.0.view c.args.pass.now.seat.me.0.past c.reserve-seen.new.pass.seat.me.0.past c.grant.new.pass.seat.me.0.past (flag-clear c.has_writer.result c.reserve-seen.result c.has_writer.ensures c.if-has_writer.false) (ap (λ (z : V). z.hand.task) e.kept) (omega (arith, steps)) (omega (arith, more)) e.last (subst (λ (place : ℕ). FoundAt place c.reserve-seen.result c.reserve-seen.new.pass.seat.me.0.past) g.met.H.WakeHost.places.0 e.found) e.goes_on (λ p t. c.grant.ensures.goes_on p (c.set_hint.ensures.goes_on p t))
+    saw-writer false c.reserve-seen.result c.args.pass.now.seat.me.0.view c.reserve-seen.new.pass.seat.me.0.view c.grant.new.pass.seat.me.0.view c.args.pass.now.seat.me.0.past c.reserve-seen.new.pass.seat.me.0.past c.grant.new.pass.seat.me.0.past (flag-clear c.has_writer.result c.reserve-seen.result c.has_writer.ensures c.if-has_writer.false) (ap (λ (z : V). z.hand.task) e.kept) (omega (arith, steps)) (omega (arith, more)) e.on.last (subst (λ (place : ℕ). FoundAt place c.reserve-seen.result c.reserve-seen.new.pass.seat.me.0.past) g.met.H.WakeHost.places.0 e.found) e.on.goes_on (λ p t. c.grant.ensures.on.goes_on p (c.set_hint.ensures.on.goes_on p t))
 
 -- the answer alone decides whether it marks
 pub returns-then-has_writer-clause-steps : goal.returns-then-has_writer-clause-steps

@@ -1,9 +1,9 @@
 -- What each load of a fault tells.
-use Rattle.std.proofs.Common.{◌≡◌, ◌∙◌, ◌%◌, length, arith, ap, inl, inr}
+use Rattle.std.proofs.Common.{◌≡◌, ◌∙◌, ◌%◌, length, arith, ap, inl, inr, rules}
 use Rattle.word_bits.proofs.States.{state_is_state}
 use Rattle.lock_core.specs.Layout.{length_place}
 use Rattle.lock_core.specs.Views.{ticked}
-use Rattle.vma_map.specs.SpaceLaws.{starts, called, goes_on, replies}
+use Rattle.vma_map.specs.Laws.Space.{starts, called, goes_on, replies}
 use Rattle.vma_map.specs.Spaces.{space}
 use Rattle.seq_fault.specs.SeqPlays.{glance, staled}
 use Rattle.seq_fault.specs.SeqRuled.{V, seq_at}
@@ -22,7 +22,7 @@ returns-then-before-eq1-clause-raced c =
     let x = c.watch-before.new.pass.seat.me.0.view in
     let is = c.watch-before.ensures.odd (λ z. let n = c.if-before-eq1.true in omega (arith, z, n)) in
     let one = ap (λ (z : V). z.steps) is in
-    finds v x 1 seq_at c.watch-before.result _ _ _ (ap (λ (z : V). z.hand.task) is) one c.watch-before.ensures.last c.watch-before.ensures.found c.watch-before.ensures.goes_on (λ p t. t)
+    finds v x 1 seq_at c.watch-before.result _ _ _ (ap (λ (z : V). z.hand.task) is) one c.watch-before.ensures.on.last c.watch-before.ensures.found c.watch-before.ensures.on.goes_on (λ p t. t)
 
 pub measure-front-requires-clause-on : goal.measure-front-requires-clause-on
 measure-front-requires-clause-on c =
@@ -41,8 +41,8 @@ search_words-requires-clause-on c =
       | inr t ↦ (staled (glance before b.0 b.1), ap (λ (z : V). z.ext) t)
     ]
 
-pub returns-clause-goes_on : goal.returns-clause-goes_on
-returns-clause-goes_on c = λ p t. c.search_words.ensures.goes_on p (c.measure-front.ensures.goes_on p (c.watch-before.ensures.goes_on p t))
+pub returns-clause-on : goal.returns-clause-on
+returns-clause-on c = record { own = search rules; goes_on = λ p t. c.search_words.ensures.on.goes_on p (c.measure-front.ensures.on.goes_on p (c.watch-before.ensures.on.goes_on p t)); last = search rules }
 
 pub returns-clause-few : goal.returns-clause-few
 returns-clause-few c =
@@ -86,7 +86,7 @@ returns-clause-first c =
     let before = c.watch-before.result in
     let even : before % 2 ≡ 0 = (let n = c.if-before-eq1.false in omega (arith, n)) in
     let is = (c.watch-before.ensures.even even).3 in
-    finds v c.watch-before.new.pass.seat.me.0.view 1 seq_at before _ _ _ (ap (λ (z : V). z.hand.task) is) (ap (λ (z : V). z.steps) is) c.watch-before.ensures.last c.watch-before.ensures.found c.watch-before.ensures.goes_on (λ p t. c.search_words.ensures.goes_on p (c.measure-front.ensures.goes_on p t))
+    finds v c.watch-before.new.pass.seat.me.0.view 1 seq_at before _ _ _ (ap (λ (z : V). z.hand.task) is) (ap (λ (z : V). z.steps) is) c.watch-before.ensures.on.last c.watch-before.ensures.found c.watch-before.ensures.on.goes_on (λ p t. c.search_words.ensures.on.goes_on p (c.measure-front.ensures.on.goes_on p t))
 
 pub returns-clause-measured : goal.returns-clause-measured
 returns-clause-measured c =
@@ -100,4 +100,4 @@ returns-clause-measured c =
     let then = told-next (λ g. front ≡ length g.log) (glance before b.0 b.1) x y (ap (λ (z : V). z.ext) b.3) c.measure-front.ensures.told in
     let one = ap (λ (z : V). z.steps) b.3 in
     let two = then.1 in
-    finds v y 2 length_place front _ _ _ (then.0 ∙ ap (λ (z : V). z.hand.task) b.3) (omega (arith, one, two)) c.measure-front.ensures.last c.measure-front.ensures.found (λ p t. c.measure-front.ensures.goes_on p (c.watch-before.ensures.goes_on p t)) c.search_words.ensures.goes_on
+    finds v y 2 length_place front _ _ _ (then.0 ∙ ap (λ (z : V). z.hand.task) b.3) (omega (arith, one, two)) c.measure-front.ensures.on.last c.measure-front.ensures.found (λ p t. c.measure-front.ensures.on.goes_on p (c.watch-before.ensures.on.goes_on p t)) c.search_words.ensures.on.goes_on

@@ -11,10 +11,10 @@ peek-word-requires-clause-on c = still-watching c.requires.on.0 c.loop-at.search
 
 pub loop-at-preserved : goal.loop-at-preserved
 loop-at-preserved c = (
-  c.peek-word.ensures.own,
+  c.peek-word.ensures.on.own,
   c.peek-word.ensures.face ∙ c.loop-at.invariant.1,
-  (λ p t. c.peek-word.ensures.goes_on p (c.loop-at.invariant.2 p t)),
-  c.peek-word.ensures.last,
+  (λ p t. c.peek-word.ensures.on.goes_on p (c.loop-at.invariant.2 p t)),
+  c.peek-word.ensures.on.last,
   c.give.ensures.page ∙ c.loop-at.invariant.4,
   λ m on. searched-more m c.loop-at.search c.give.new.self c.in-Some.at c.peek-word.result c.args.pass.now.seat.me.0.view c.loop-at.pass.seat.me.0.view c.peek-word.new.pass.seat.me.0.view (sym c.want.ensures.is ∙ c.in-Some.is) c.give.ensures.more c.give.ensures.agrees (c.loop-at.invariant.5 m on) c.peek-word.ensures.told,
 )

@@ -1,10 +1,9 @@
-use Rattle.std.proofs.Common.{◌∙◌, ap, subst, sym, length}
+use Rattle.std.proofs.Common.{◌∙◌, ap, sym, length}
 use Rattle.lock_core.specs.declared.pass.Face.{Face}
 use Rattle.lock_core.specs.declared.view.Held.TheVariants.{No}
-use Rattle.lock_core.specs.Pasts.{IsOwnStep, Tail}
-use Rattle.lock_core.proofs.Reholding.{sits-released}
 use Rattle.seq_fault.proofs.Having.{has-sequence}
 use Rattle.seq_fault.proofs.Stepping.{leaves}
+use Rattle.lock_core.proofs.Sitting.{noted-on, sits-released}
 use Rattle.seq_fault.proofs.steps.leave.Goals as goal
 
 pub step-requires-clause-there : goal.step-requires-clause-there
@@ -13,11 +12,5 @@ step-requires-clause-there g c = has-sequence (length c.args.site.now.table.shar
 pub step-requires-clause-lets : goal.step-requires-clause-lets
 step-requires-clause-lets g c = leaves g.O.Object.object g.O.Object.WORDS c.args.site.now.table.shared.key _ _ _ (sym c.requires.own.held ∙ c.requires.held) c.requires.quiet c.requires.own.stage
 
-pub returns-clause-own : goal.returns-clause-own
-returns-clause-own g c = let told = c.step.ensures.told in let seat = c.set_held.ensures.seat in sits-released c.args.site.now.table.shared.key c.args.site.now.table.shared.table_id c.args.pass.now.seat.table_id c.set_held.new.self.seat.table_id c.args.pass.now.seat.me c.set_held.new.self.seat.me c.args.pass.now.face c.set_held.new.self.face 0 c.args.pass.now.seat.me.0.view.ext (ap (λ s. s.me.0.view) seat ∙ told.0) c.requires.quiet (ap (λ s. s.table_id) seat ∙ c.step.ensures.own.0) (ap (λ s. s.me.1) seat ∙ told.1) (c.set_held.ensures.face ∙ ap (λ (f : Face). record f { held = No }) c.step.ensures.face) c.requires.own
-
-pub returns-clause-goes_on : goal.returns-clause-goes_on
-returns-clause-goes_on g c = λ p t. subst (Tail p) (sym (ap (λ s. s.me.0.past) c.set_held.ensures.seat)) (c.step.ensures.goes_on p t)
-
-pub returns-clause-last : goal.returns-clause-last
-returns-clause-last g c = subst (λ s. IsOwnStep s.me.0.view s.me.0.past) (sym c.set_held.ensures.seat) c.step.ensures.last
+pub returns-clause-on : goal.returns-clause-on
+returns-clause-on g c = let told = c.step.ensures.told in let seat = c.set_held.ensures.seat in noted-on c.step.new.pass (sits-released 0 c.args.pass.now.seat.me.0.view.ext (ap (λ s. s.me.0.view) seat ∙ told.0) c.requires.quiet (ap (λ s. s.table_id) seat ∙ c.step.ensures.own.0) (ap (λ s. s.me.1) seat ∙ told.1) (c.set_held.ensures.face ∙ ap (λ (f : Face). record f { held = No }) c.step.ensures.face) c.requires.own) c.step.ensures.goes_on c.step.ensures.last c.set_held.ensures.seat

@@ -1,7 +1,7 @@
 use Rattle.std.proofs.Common.{arith, ◌∙◌, length, ap, sym}
 use Rattle.word_bits.specs.Histories.{state_after}
 use Rattle.word_bits.proofs.States.{IsLawful, state_is_state}
-use Rattle.percpu_rwsem.specs.PhaseLaws.{no-shared}
+use Rattle.percpu_rwsem.specs.Laws.Phase.{no-shared}
 use Rattle.step_tests.proofs.PercpuCalls.{loaded, may-note, next-call}
 use Rattle.step_tests.proofs.percpu_calls.read.Given as given
 use Rattle.step_tests.proofs.percpu_calls.read.Goals as goal

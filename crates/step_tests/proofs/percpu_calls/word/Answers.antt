@@ -1,7 +1,7 @@
 use Rattle.std.proofs.Common.{◌∙◌, ap, subst, sym}
 use Rattle.lock_core.specs.declared.view.Hand.{Hand}
 use Rattle.lock_core.specs.Locking.{IsStored}
-use Rattle.percpu_rwsem.specs.PhaseLaws.{no-shared}
+use Rattle.percpu_rwsem.specs.Laws.Phase.{no-shared}
 use Rattle.step_tests.proofs.percpu_calls.word.Goals as goal
 
 pub word-requires-clause-held : goal.word-requires-clause-held

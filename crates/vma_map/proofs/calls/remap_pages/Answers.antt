@@ -1,7 +1,7 @@
 -- A remap that is done means the pages that it left.
 use Rattle.std.proofs.Common.{length, sym, ap, arith}
 use Rattle.vma_map.specs.Runs.{page_map}
-use Rattle.vma_map.specs.PageRunLaws.{runs-page_map}
+use Rattle.vma_map.specs.Laws.PageRun.{runs-page_map}
 use Rattle.vma_map.proofs.RemapLemmas.{remapped-ok}
 use Rattle.vma_map.proofs.calls.remap_pages.Goals as goal
 

@@ -1,6 +1,6 @@
 -- The last area leaves what it has from the page on.
 use Rattle.std.proofs.Common.{[], length, take, ◌-◌, sym, ◌∙◌, ◌≤◌, arith}
-use Rattle.vma_map.specs.AreaLaws.{AreRuns-head}
+use Rattle.vma_map.specs.Laws.Area.{AreRuns-head}
 use Rattle.vma_map.proofs.RangeLemmas.{AreRuns-from}
 use Rattle.vma_map.proofs.WordLemmas.{last_of}
 use Rattle.vma_map.proofs.CutLemmas.{last_holds}

@@ -4,7 +4,7 @@ use Rattle.word_bits.specs.declared.area.Area.{Area}
 use Rattle.word_bits.specs.PageMaps.{no_pages}
 use Rattle.vma_map.specs.Runs.{page_map}
 use Rattle.vma_map.specs.Remaps.{with_moved}
-use Rattle.vma_map.specs.AreaLaws.{page_map-past}
+use Rattle.vma_map.specs.Laws.Area.{page_map-past}
 use Rattle.vma_map.proofs.MoveLemmas.{IsMoved-up}
 use Rattle.vma_map.proofs.remapping.moved_up.Goals as goal
 

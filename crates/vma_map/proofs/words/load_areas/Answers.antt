@@ -2,7 +2,7 @@
 use Rattle.std.proofs.Common.{sym, ap, ◌∙◌}
 use Rattle.std.proofs.lemmas.List.{take_all}
 use Rattle.std.proofs.lemmas.Bool.{false≢true}
-use Rattle.vma_map.specs.AreaLaws.{map-area_word-injective}
+use Rattle.vma_map.specs.Laws.Area.{map-area_word-injective}
 use Rattle.vma_map.proofs.WordLemmas.{unpacks-none, unpacks-first}
 use Rattle.vma_map.proofs.words.load_areas.Goals as goal
 

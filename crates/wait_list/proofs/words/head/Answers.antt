@@ -11,7 +11,10 @@ step-requires g c = let k = c.args.site.now.table.shared.key in let s = g.H.List
   lets = sights (g.H.SiteRule.holds k) (g.H.SiteRule.moves k) g.H.SpinHost.LOCKS g.H.SpinHost.FIRST g.H.ListHost.LIST g.H.ListHost.list g.H.ListHost.with_list g.H.ListHost.saw_first g.H.ListHost.may_change (g.H.ListHost.queue k) (g.met.H.SpinHost.spin_kept k) (g.met.H.ListHost.queued k) (g.H.ListHost.list_kept k) (g.H.ListHost.list_may k) (g.met.H.ListHost.lists k) (g.met.H.ListHost.firsts k) k (g.H.ListHost.listed_few k) _ _ _ _ c.LIST.ensures;
 }
 
-pub returns-clause-own : goal.returns-clause-own
-returns-clause-own g c = let turn = c.step.ensures.told in
-    sits-on c.args.site.now.table.shared.key c.args.site.now.table.shared.table_id c.args.pass.now.seat.table_id c.step.new.pass.seat.table_id c.args.pass.now.seat.me c.step.new.pass.seat.me c.args.pass.now.face c.step.new.pass.face
-    c.step.ensures.own.0 turn.1 (ap (λ v. v.hand) turn.0) (let n = ap (λ v. v.steps) turn.0 in omega (arith, n)) c.step.ensures.face c.requires.own
+pub returns-clause-on : goal.returns-clause-on
+returns-clause-on g c = record {
+  own = let turn = c.step.ensures.told in
+      sits-on c.step.ensures.own.0 turn.1 (ap (λ v. v.hand) turn.0) (let n = ap (λ v. v.steps) turn.0 in omega (arith, n)) c.step.ensures.face c.requires.own;
+  goes_on = c.step.ensures.goes_on;
+  last = c.step.ensures.last;
+}

@@ -11,10 +11,13 @@ step-requires g c = let k = c.args.site.now.table.shared.key in let s = g.H.Slee
   lets = sets (g.H.SiteRule.holds k) (g.H.SiteRule.moves k) (g.H.ListHost.queue k) g.H.SleepHost.WAKE (g.met.H.ListHost.queued k) g.H.SleepHost.has_chosen g.H.SleepHost.after_set (g.met.H.SleepHost.sets_word k) _ _ _ c.args.target _ (ap (λ n. n + 8 * c.args.target) e) c.requires.chosen;
 }
 
-pub returns-clause-own : goal.returns-clause-own
-returns-clause-own g c = let turn = c.step.ensures.told c.args.target (ap (λ n. n + 8 * c.args.target) c.WAKE.ensures) in
-    sits-on c.args.site.now.table.shared.key c.args.site.now.table.shared.table_id c.args.pass.now.seat.table_id c.step.new.pass.seat.table_id c.args.pass.now.seat.me c.step.new.pass.seat.me c.args.pass.now.face c.step.new.pass.face
-    c.step.ensures.own.0 turn.1 (ap (λ v. v.hand) turn.0) (let n = ap (λ v. v.steps) turn.0 in omega (arith, n)) c.step.ensures.face c.requires.own
+pub returns-clause-on : goal.returns-clause-on
+returns-clause-on g c = record {
+  own = let turn = c.step.ensures.told c.args.target (ap (λ n. n + 8 * c.args.target) c.WAKE.ensures) in
+      sits-on c.step.ensures.own.0 turn.1 (ap (λ v. v.hand) turn.0) (let n = ap (λ v. v.steps) turn.0 in omega (arith, n)) c.step.ensures.face c.requires.own;
+  goes_on = c.step.ensures.goes_on;
+  last = c.step.ensures.last;
+}
 
 pub returns-clause-kept : goal.returns-clause-kept
 returns-clause-kept g c = (c.step.ensures.told c.args.target (ap (λ n. n + 8 * c.args.target) c.WAKE.ensures)).0

@@ -6,7 +6,7 @@ use Rattle.word_bits.specs.Packed.{IsFound}
 use Rattle.fd_table.specs.declared.call.TableCall.{TableCall}
 use Rattle.fd_table.specs.declared.call.TableCall.TheVariants.{Open, Close, Dup, Dup2, Get}
 use Rattle.fd_table.specs.Tables.{IsCallOf, call_of}
-use Rattle.fd_table.specs.TableCallLaws.{call_of-exact}
+use Rattle.fd_table.specs.Laws.TableCall.{call_of-exact}
 use Rattle.fd_table.proofs.call.TableCall.call_of.Goals as goal
 
 -- what equals the meaning of the words is exact

@@ -5,7 +5,7 @@ use Rattle.std.proofs.lemmas.Iterator.{YieldsList-from_range}
 use Rattle.std.proofs.lemmas.Iterator.Adapters.{option_map_id}
 use Rattle.std.proofs.lemmas.Iterator.Search.{find_from_yields_List}
 use Rattle.fd_table.specs.Tables.{IsFull, IsLowestFree, fd_map, lowest_from, lowest_free}
-use Rattle.fd_table.specs.TableLaws.{lowest_free-lowest}
+use Rattle.fd_table.specs.Laws.Table.{lowest_free-lowest}
 use Rattle.fd_table.proofs.fds.Fds.lowest_free.Goals as goal
 use Rattle.fd_table.proofs.fds.Fds.lowest_free.Goals.{After-find}
 

@@ -1,7 +1,7 @@
 use Rattle.std.proofs.Common.{sym, ◌∙◌}
 use Rattle.word_bits.proofs.States.{IsLawful}
 use Rattle.guarded.proofs.Recording.{serves-looked, reading-note, reading-unsent}
-use Rattle.lock_core.specs.LockedLaws.{shares-holds}
+use Rattle.lock_core.specs.Laws.Locked.{shares-holds}
 use Rattle.lock_core.specs.Kinds.{unavailable}
 use Rattle.lock_core.specs.Views.{next_entry}
 use Rattle.guarded.proofs.Serving.{is-object}

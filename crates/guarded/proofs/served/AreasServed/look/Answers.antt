@@ -3,9 +3,9 @@ use Rattle.word_bits.specs.Histories.{state_after}
 use Rattle.word_bits.specs.PageMaps.{PageMap, runs}
 use Rattle.word_bits.proofs.States.{IsLawful, state_is_state}
 use Rattle.vma_map.specs.Runs.{page_map}
-use Rattle.vma_map.specs.PageRunLaws.{page_map-runs}
+use Rattle.vma_map.specs.Laws.PageRun.{page_map-runs}
 use Rattle.vma_map.specs.Spaces.{space, meaning}
-use Rattle.vma_map.specs.SpaceLaws.{IsSpace-runs, starts, called, goes_on, replies}
+use Rattle.vma_map.specs.Laws.Space.{IsSpace-runs, starts, called, goes_on, replies}
 use Rattle.guarded.specs.Splicing.{areas_in}
 use Rattle.guarded.proofs.Spliced.{have-areas}
 use Rattle.word_bits.specs.declared.reply.Reply.TheVariants.{Num}

@@ -3,7 +3,7 @@ use Rattle.std.proofs.Common.{sym, ap, subst, ◌∙◌}
 use Rattle.word_bits.specs.Histories.{state_after}
 use Rattle.word_bits.proofs.States.{IsLawful, state_is_state}
 use Rattle.fd_table.specs.Tables.{table, meaning, stores}
-use Rattle.fd_table.specs.TableLaws.{starts, called, goes_on, replies}
+use Rattle.fd_table.specs.Laws.Table.{starts, called, goes_on, replies}
 use Rattle.fd_table.specs.declared.call.TableCall.{TableCall}
 use Rattle.guarded.specs.Performing.{HasStored}
 use Rattle.guarded.proofs.served.FdsServed.change.Goals as goal

@@ -4,7 +4,7 @@ use Rattle.lock_core.specs.declared.view.Hand.{Hand}
 use Rattle.vma_map.specs.Runs.{spliced}
 use Rattle.guarded.specs.CallServing.{AreZeroFrom}
 use Rattle.guarded.specs.Splicing.{MakeRoom, areas_in}
-use Rattle.guarded.specs.SplicingLaws.{changes-more}
+use Rattle.guarded.specs.Laws.Splicing.{changes-more}
 use Rattle.guarded.proofs.Spliced.{number-of, long-of, zeros-of, length-of, pieces-runs, spliced-stored, have-areas}
 use Rattle.guarded.proofs.Written.{looked, wrote-word, still-alone, same-known}
 use Rattle.guarded.proofs.splicing.LockedAreasAreaStore.splice.Goals as goal

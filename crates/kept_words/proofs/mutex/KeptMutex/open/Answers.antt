@@ -1,7 +1,7 @@
 use Rattle.std.proofs.Common.{◌∙◌, ◌-◌, ap, length, arith}
 use Rattle.mutex_slow.specs.MutexHandles.{plan_of}
 use Rattle.kept_words.specs.declared.mutex.SharedMutex.{SharedMutex}
-use Rattle.kept_words.specs.KeepingLaws.{kept-opens, plan-length, plan-so}
+use Rattle.kept_words.specs.Laws.Keeping.{kept-opens, plan-length, plan-so}
 use Rattle.kept_words.proofs.mutex.KeptMutex.open.Goals as goal
 
 pub open-requires : goal.open-requires

@@ -2,7 +2,7 @@ use Rattle.std.proofs.Common.{ap}
 use Rattle.std.specs.Arc.{arc_value}
 use Rattle.mutex_slow.specs.MutexHandles.{plan_of, shown_of, SitsAt}
 use Rattle.kept_words.specs.declared.mutex.SharedMutex.{SharedMutex}
-use Rattle.kept_words.specs.KeepingLaws.{sits-planned}
+use Rattle.kept_words.specs.Laws.Keeping.{sits-planned}
 use Rattle.kept_words.proofs.mutex.KeptMutexKept.get.Goals as goal
 
 pub word-requires-clause-own : goal.word-requires-clause-own

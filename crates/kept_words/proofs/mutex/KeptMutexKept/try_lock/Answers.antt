@@ -5,7 +5,7 @@ use Rattle.lock_core.specs.declared.view.Held.TheVariants.{Alone}
 use Rattle.mutex_slow.specs.declared.calls.Mutex.{Mutex}
 use Rattle.mutex_slow.specs.MutexHandles.{plan_of, shown_of, SitsAt}
 use Rattle.kept_words.specs.declared.mutex.SharedMutex.{SharedMutex}
-use Rattle.kept_words.specs.KeepingLaws.{finds-kept, missed, taken}
+use Rattle.kept_words.specs.Laws.Keeping.{finds-kept, missed, taken}
 use Rattle.kept_words.proofs.mutex.KeptMutexKept.try_lock.Goals.{in-Ok, in-Err}
 use Rattle.lock_core.specs.Pasts.{Tail}
 use Rattle.kept_words.specs.Keeping.{TaskView}

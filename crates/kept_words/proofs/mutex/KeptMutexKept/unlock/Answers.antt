@@ -2,7 +2,7 @@ use Rattle.std.proofs.Common.{ap, subst, sym}
 use Rattle.std.specs.Arc.{arc_value}
 use Rattle.mutex_slow.specs.MutexHandles.{plan_of, shown_of, SitsAt}
 use Rattle.kept_words.specs.declared.mutex.SharedMutex.{SharedMutex}
-use Rattle.kept_words.specs.KeepingLaws.{sits-planned}
+use Rattle.kept_words.specs.Laws.Keeping.{sits-planned}
 use Rattle.lock_core.specs.Pasts.{Tail}
 use Rattle.kept_words.specs.Keeping.{TaskView}
 use Rattle.kept_words.proofs.mutex.KeptMutexKept.unlock.Goals as goal

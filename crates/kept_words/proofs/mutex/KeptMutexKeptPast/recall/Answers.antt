@@ -2,7 +2,7 @@ use Rattle.std.proofs.Common.{ap}
 use Rattle.std.specs.Arc.{arc_value}
 use Rattle.mutex_slow.specs.MutexHandles.{plan_of, shown_of, SitsAt}
 use Rattle.kept_words.specs.declared.mutex.SharedMutex.{SharedMutex}
-use Rattle.kept_words.specs.KeepingLaws.{sits-planned}
+use Rattle.kept_words.specs.Laws.Keeping.{sits-planned}
 use Rattle.kept_words.proofs.mutex.KeptMutexKeptPast.recall.Goals as goal
 
 pub look_back-requires-clause-own : goal.look_back-requires-clause-own

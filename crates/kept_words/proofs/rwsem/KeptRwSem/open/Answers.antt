@@ -1,7 +1,7 @@
 use Rattle.std.proofs.Common.{◌∙◌, ◌-◌, ap, length, arith}
 use Rattle.rwsem_slow.specs.RwSemHandles.{plan_of}
 use Rattle.kept_words.specs.declared.rwsem.SharedSem.{SharedSem}
-use Rattle.kept_words.specs.KeepingLaws.{kept-opens, plan-length, plan-so}
+use Rattle.kept_words.specs.Laws.Keeping.{kept-opens, plan-length, plan-so}
 use Rattle.kept_words.proofs.rwsem.KeptRwSem.open.Goals as goal
 
 pub open-requires : goal.open-requires

@@ -2,7 +2,7 @@ use Rattle.std.proofs.Common.{ap}
 use Rattle.std.specs.Arc.{arc_value}
 use Rattle.rwsem_slow.specs.RwSemHandles.{plan_of, shown_of, SitsAt}
 use Rattle.kept_words.specs.declared.rwsem.SharedSem.{SharedSem}
-use Rattle.kept_words.specs.KeepingLaws.{sits-planned}
+use Rattle.kept_words.specs.Laws.Keeping.{sits-planned}
 use Rattle.kept_words.proofs.rwsem.KeptRwSemKept.get.Goals as goal
 
 pub word-requires-clause-own : goal.word-requires-clause-own

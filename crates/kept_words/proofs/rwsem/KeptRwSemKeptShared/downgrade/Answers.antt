@@ -2,7 +2,7 @@ use Rattle.std.proofs.Common.{ap, subst, sym}
 use Rattle.std.specs.Arc.{arc_value}
 use Rattle.rwsem_slow.specs.RwSemHandles.{plan_of, shown_of, SitsAt}
 use Rattle.kept_words.specs.declared.rwsem.SharedSem.{SharedSem}
-use Rattle.kept_words.specs.KeepingLaws.{sits-planned}
+use Rattle.kept_words.specs.Laws.Keeping.{sits-planned}
 use Rattle.lock_core.specs.Pasts.{Tail}
 use Rattle.kept_words.specs.Keeping.{TaskView}
 use Rattle.kept_words.proofs.rwsem.KeptRwSemKeptShared.downgrade.Goals as goal

@@ -4,7 +4,7 @@ use Rattle.std.proofs.lemmas.Bool.{false≢true}
 use Rattle.lock_core.specs.declared.view.Held.TheVariants.{Shared}
 use Rattle.rwsem_slow.specs.RwSemHandles.{plan_of, shown_of, SitsAt}
 use Rattle.kept_words.specs.declared.rwsem.SharedSem.{SharedSem}
-use Rattle.kept_words.specs.KeepingLaws.{finds-kept}
+use Rattle.kept_words.specs.Laws.Keeping.{finds-kept}
 use Rattle.kept_words.proofs.rwsem.KeptRwSemKeptShared.try_lock_shared.Goals.{in-Ok, in-Err}
 use Rattle.lock_core.specs.Pasts.{Tail}
 use Rattle.kept_words.specs.Keeping.{TaskView}

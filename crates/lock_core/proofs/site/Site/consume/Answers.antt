@@ -15,7 +15,7 @@ returns-clause-consumed g c = let v = c.args.pass.now.seat.me.0.view in record {
 
 pub returns-clause-saw : goal.returns-clause-saw
 returns-clause-saw g c = λ t is. let s = c.in_ok-why.ensures.saw t is in let v = c.args.pass.now.seat.me.0 in let w = c.pending.new.pass.seat.me.0 in let u = c.consume_pending.new.pass.seat.me.0 in
-    let more = ap (λ (x : View _). x.steps) c.consume_pending.ensures.kept in let after = c.consume_pending.ensures.goes_on in record {
+    let more = ap (λ (x : View _). x.steps) c.consume_pending.ensures.kept in let after = c.consume_pending.ensures.on.goes_on in record {
       sent = found-since-within v.view.hand.task v.view.hand.task v.view.steps v.view.steps u.view.steps w.view.steps _ _ v.past v.past w.past u.past refl (omega arith) (λ p q. q) (omega (arith, more)) after s.sent;
       taken = found-since-within v.view.hand.task v.view.hand.task v.view.steps v.view.steps u.view.steps w.view.steps _ _ v.past v.past w.past u.past refl (omega arith) (λ p q. q) (omega (arith, more)) after s.taken;
     }

@@ -17,11 +17,14 @@ put-requires-clause-keeps g c = λ s hs r at. let few = c.args.self.now.small.ta
     consumes-there g.R.O.Object.object g.R.SiteRule.unavailable g.R.O.Object.WORDS c.args.self.now.table.shared.key s hs c.args.pass.now.seat.id c.in-Some.task (LINES_AT + (8 * c.in-Some.task + 2)) why.taken c.args.pass.now.seat.me.0.view.hand (record { sent = why.sent; taken = why.taken })
     (sym c.requires.own.task ∙ c.in-Some.is) (omega (arith, few, l)) (omega arith) c.requires.heard.heard c.requires.heard.pending refl r at
 
-pub returns-clause-own : goal.returns-clause-own
-returns-clause-own g c = let own = c.requires.own in let old = c.args.pass.now.seat.me.0.view.hand in
-    let now : c.put.new.pass.seat.me.0.view.hand ≡ consuming old = ap (λ v. v.hand) c.put.ensures.kept in
-    let later = ap (λ v. v.steps) c.put.ensures.kept in
-    sits-same c.args.self.now.table.shared.key c.args.self.now.table.shared.table_id c.args.pass.now.seat.table_id c.put.new.pass.seat.table_id c.args.pass.now.seat.me c.put.new.pass.seat.me c.args.pass.now.face c.put.new.pass.face
-    c.put.ensures.own.0 c.put.ensures.own.2
-    (subst (SameFace old) (sym now) record { plan = refl; task = refl; held = refl; done = refl; seen = refl; stage = refl; log = refl; saw = refl; last = refl; writer = own.writer; nameless = λ e. none-some c.in-Some.task (sym e ∙ (sym own.task ∙ c.in-Some.is)) })
-    (omega (arith, later)) c.put.ensures.face own
+pub returns-clause-on : goal.returns-clause-on
+returns-clause-on g c = record {
+  own = let own = c.requires.own in let old = c.args.pass.now.seat.me.0.view.hand in
+      let now : c.put.new.pass.seat.me.0.view.hand ≡ consuming old = ap (λ v. v.hand) c.put.ensures.kept in
+      let later = ap (λ v. v.steps) c.put.ensures.kept in
+      sits-same c.put.ensures.own.0 c.put.ensures.own.2
+      (subst (SameFace old) (sym now) record { plan = refl; task = refl; held = refl; done = refl; seen = refl; stage = refl; log = refl; saw = refl; last = refl; writer = own.writer; nameless = λ e. none-some c.in-Some.task (sym e ∙ (sym own.task ∙ c.in-Some.is)) })
+      (omega (arith, later)) c.put.ensures.face own;
+  goes_on = c.put.ensures.own.3;
+  last = c.put.ensures.own.4;
+}

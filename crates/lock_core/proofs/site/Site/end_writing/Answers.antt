@@ -22,19 +22,22 @@ step_stored-requires-clause-there g c = let n = length c.args.self.now.table.sha
 pub returns-clause-kept : goal.returns-clause-kept
 returns-clause-kept g c = let t = c.step_stored.ensures.told in t.2.0 ∙ ap (λ (z : Hand). handed c.args.pass.now.seat.me.0.view z) t.1
 
-pub returns-clause-own : goal.returns-clause-own
-returns-clause-own g c = let t = c.step_stored.ensures.told in let v = c.args.pass.now.seat.me.0.view in let h : c.step_stored.new.pass.seat.me.0.view.hand ≡ quieted v.hand = ap (λ x. x.hand) t.2.0 ∙ t.1 in
-    sits-same c.args.self.now.table.shared.key c.args.self.now.table.shared.table_id c.args.pass.now.seat.table_id c.step_stored.new.pass.seat.table_id c.args.pass.now.seat.me c.step_stored.new.pass.seat.me c.args.pass.now.face c.step_stored.new.pass.face
-    c.step_stored.ensures.own.0 t.2.1 record {
-      plan = ap (λ (z : Hand). z.plan) h;
-      task = ap (λ (z : Hand). z.task) h;
-      held = ap (λ (z : Hand). z.held) h;
-      done = ap (λ (z : Hand). z.done) h;
-      seen = ap (λ (z : Hand). z.seen) h;
-      stage = ap (λ (z : Hand). z.stage) h;
-      log = ap (λ (z : Hand). z.log) h;
-      saw = ap (λ (z : Hand). z.saw) h;
-      last = ap (λ (z : Hand). z.last) h;
-      writer = λ _. ap (λ (z : Hand). z.held) h ∙ (sym c.requires.own.held ∙ c.requires.held);
-      nameless = λ e. let n = c.requires.own.nameless (sym (ap (λ (z : Hand). z.task) h) ∙ e) in (ap (λ (z : Hand). z.held) h ∙ n.0, ap (λ (z : Hand). z.sent) h ∙ n.1, ap (λ (z : Hand). z.consumed) h ∙ n.2);
-    } (let n = ap (λ x. x.steps) t.2.0 in omega (arith, n)) c.step_stored.ensures.face c.requires.own
+pub returns-clause-on : goal.returns-clause-on
+returns-clause-on g c = record {
+  own = let t = c.step_stored.ensures.told in let v = c.args.pass.now.seat.me.0.view in let h : c.step_stored.new.pass.seat.me.0.view.hand ≡ quieted v.hand = ap (λ x. x.hand) t.2.0 ∙ t.1 in
+      sits-same c.step_stored.ensures.own.0 t.2.1 record {
+        plan = ap (λ (z : Hand). z.plan) h;
+        task = ap (λ (z : Hand). z.task) h;
+        held = ap (λ (z : Hand). z.held) h;
+        done = ap (λ (z : Hand). z.done) h;
+        seen = ap (λ (z : Hand). z.seen) h;
+        stage = ap (λ (z : Hand). z.stage) h;
+        log = ap (λ (z : Hand). z.log) h;
+        saw = ap (λ (z : Hand). z.saw) h;
+        last = ap (λ (z : Hand). z.last) h;
+        writer = λ _. ap (λ (z : Hand). z.held) h ∙ (sym c.requires.own.held ∙ c.requires.held);
+        nameless = λ e. let n = c.requires.own.nameless (sym (ap (λ (z : Hand). z.task) h) ∙ e) in (ap (λ (z : Hand). z.held) h ∙ n.0, ap (λ (z : Hand). z.sent) h ∙ n.1, ap (λ (z : Hand). z.consumed) h ∙ n.2);
+      } (let n = ap (λ x. x.steps) t.2.0 in omega (arith, n)) c.step_stored.ensures.face c.requires.own;
+  goes_on = c.step_stored.ensures.goes_on;
+  last = c.step_stored.ensures.last;
+}

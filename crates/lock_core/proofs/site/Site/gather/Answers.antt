@@ -1,7 +1,7 @@
 use Rattle.std.proofs.Common.{arith, map, sym, ap, ◌∙◌, subst}
 use Rattle.atomic_table.proofs.Lists.{at_map, set_else}
 use Rattle.lock_core.specs.Pasts.{Tail, view_of, opening}
-use Rattle.lock_core.specs.MoveLaws.{join-moves}
+use Rattle.lock_core.specs.Laws.Move.{join-moves}
 use Rattle.lock_core.proofs.Living.{lived-join}
 use Rattle.lock_core.proofs.SiteLaws.{joins-kept}
 use Rattle.lock_core.proofs.site.Site.gather.Goals as goal

@@ -1,4 +1,4 @@
-use Rattle.lock_core.specs.SiteRunLaws.{ran-so}
+use Rattle.lock_core.specs.Laws.SiteRun.{ran-so}
 use Rattle.lock_core.specs.SiteStated.{IsSiteMoveWhere}
 use Rattle.lock_core.specs.Pasts.{opening, Moves}
 use Rattle.lock_core.proofs.site.Site.grown.Goals as goal

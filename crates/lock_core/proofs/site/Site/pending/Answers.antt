@@ -3,7 +3,7 @@ use Rattle.lock_core.specs.declared.view.Hand.{Hand}
 use Rattle.lock_core.specs.declared.view.View.{View}
 use Rattle.lock_core.specs.Views.{handed, hearing}
 use Rattle.lock_core.specs.SiteHandles.{SawSignals}
-use Rattle.lock_core.specs.SiteRunLaws.{found-at-step}
+use Rattle.lock_core.specs.Laws.SiteRun.{found-at-step}
 use Rattle.lock_core.proofs.Sitting.{SameFace, sits-same}
 use Rattle.lock_core.proofs.HandLaws.{same-number}
 use Rattle.lock_core.proofs.Hearing.{hears-both}
@@ -20,23 +20,29 @@ find-taken-requires-clause-inside g c = let few = c.args.self.now.small.tasks in
 pub find-taken-requires-clause-told : goal.find-taken-requires-clause-told
 find-taken-requires-clause-told g c = λ s hs r at. taken-found g.R.O.Object.object g.R.SiteRule.unavailable g.R.O.Object.WORDS c.args.self.now.table.shared.key s hs c.load_sent-sent.new.pass.seat.id (LINES_AT + (8 * c.in-Some.task + 2)) c.load_sent-sent.new.pass.seat.me.0.view.hand r at
 
-pub returns-then-sent-taken-clause-own : goal.returns-then-sent-taken-clause-own
-returns-then-sent-taken-clause-own g c = let heard = c.load_sent-sent.ensures.heard in let own = c.requires.own in let old = c.args.pass.now.seat.me.0.view.hand in
-    let now : c.find-taken.new.pass.seat.me.0.view.hand ≡ hearing old heard.1.0 = ap (λ v. v.hand) c.find-taken.ensures.kept ∙ (ap (λ v. v.hand) heard.2 ∙ heard.1.2) in
-    let later = ap (λ v. v.steps) c.find-taken.ensures.kept ∙ ap (λ v. v.steps + 1) heard.2 in
-    sits-same c.args.self.now.table.shared.key c.args.self.now.table.shared.table_id c.args.pass.now.seat.table_id c.find-taken.new.pass.seat.table_id c.args.pass.now.seat.me c.find-taken.new.pass.seat.me c.args.pass.now.face c.find-taken.new.pass.face
-    (c.find-taken.ensures.own.0 ∙ c.load_sent-sent.ensures.own.0) (c.find-taken.ensures.own.2 ∙ c.load_sent-sent.ensures.own.2)
-    (subst (SameFace old) (sym now) record { plan = refl; task = refl; held = refl; done = refl; seen = refl; stage = refl; log = refl; saw = refl; last = refl; writer = own.writer; nameless = own.nameless })
-    (omega (arith, later)) (c.find-taken.ensures.face ∙ c.load_sent-sent.ensures.face) own
+pub returns-then-sent-taken-clause-on : goal.returns-then-sent-taken-clause-on
+returns-then-sent-taken-clause-on g c = record {
+  own = let heard = c.load_sent-sent.ensures.heard in let own = c.requires.own in let old = c.args.pass.now.seat.me.0.view.hand in
+      let now : c.find-taken.new.pass.seat.me.0.view.hand ≡ hearing old heard.1.0 = ap (λ v. v.hand) c.find-taken.ensures.kept ∙ (ap (λ v. v.hand) heard.2 ∙ heard.1.2) in
+      let later = ap (λ v. v.steps) c.find-taken.ensures.kept ∙ ap (λ v. v.steps + 1) heard.2 in
+      sits-same (c.find-taken.ensures.own.0 ∙ c.load_sent-sent.ensures.own.0) (c.find-taken.ensures.own.2 ∙ c.load_sent-sent.ensures.own.2)
+      (subst (SameFace old) (sym now) record { plan = refl; task = refl; held = refl; done = refl; seen = refl; stage = refl; log = refl; saw = refl; last = refl; writer = own.writer; nameless = own.nameless })
+      (omega (arith, later)) (c.find-taken.ensures.face ∙ c.load_sent-sent.ensures.face) own;
+  goes_on = λ p t. c.find-taken.ensures.own.3 p (c.load_sent-sent.ensures.own.3 p t);
+  last = c.find-taken.ensures.own.4;
+}
 
-pub returns-clause-own : goal.returns-clause-own
-returns-clause-own g c = let heard = c.load_sent-sent.ensures.heard in let own = c.requires.own in let old = c.args.pass.now.seat.me.0.view.hand in
-    let now : c.find-taken.new.pass.seat.me.0.view.hand ≡ hearing old heard.1.0 = ap (λ v. v.hand) c.find-taken.ensures.kept ∙ (ap (λ v. v.hand) heard.2 ∙ heard.1.2) in
-    let later = ap (λ v. v.steps) c.find-taken.ensures.kept ∙ ap (λ v. v.steps + 1) heard.2 in
-    sits-same c.args.self.now.table.shared.key c.args.self.now.table.shared.table_id c.args.pass.now.seat.table_id c.find-taken.new.pass.seat.table_id c.args.pass.now.seat.me c.find-taken.new.pass.seat.me c.args.pass.now.face c.find-taken.new.pass.face
-    (c.find-taken.ensures.own.0 ∙ c.load_sent-sent.ensures.own.0) (c.find-taken.ensures.own.2 ∙ c.load_sent-sent.ensures.own.2)
-    (subst (SameFace old) (sym now) record { plan = refl; task = refl; held = refl; done = refl; seen = refl; stage = refl; log = refl; saw = refl; last = refl; writer = own.writer; nameless = own.nameless })
-    (omega (arith, later)) (c.find-taken.ensures.face ∙ c.load_sent-sent.ensures.face) own
+pub returns-clause-on : goal.returns-clause-on
+returns-clause-on g c = record {
+  own = let heard = c.load_sent-sent.ensures.heard in let own = c.requires.own in let old = c.args.pass.now.seat.me.0.view.hand in
+      let now : c.find-taken.new.pass.seat.me.0.view.hand ≡ hearing old heard.1.0 = ap (λ v. v.hand) c.find-taken.ensures.kept ∙ (ap (λ v. v.hand) heard.2 ∙ heard.1.2) in
+      let later = ap (λ v. v.steps) c.find-taken.ensures.kept ∙ ap (λ v. v.steps + 1) heard.2 in
+      sits-same (c.find-taken.ensures.own.0 ∙ c.load_sent-sent.ensures.own.0) (c.find-taken.ensures.own.2 ∙ c.load_sent-sent.ensures.own.2)
+      (subst (SameFace old) (sym now) record { plan = refl; task = refl; held = refl; done = refl; seen = refl; stage = refl; log = refl; saw = refl; last = refl; writer = own.writer; nameless = own.nameless })
+      (omega (arith, later)) (c.find-taken.ensures.face ∙ c.load_sent-sent.ensures.face) own;
+  goes_on = λ p t. c.find-taken.ensures.own.3 p (c.load_sent-sent.ensures.own.3 p t);
+  last = c.find-taken.ensures.own.4;
+}
 
 pub returns-clause-heard : goal.returns-clause-heard
 returns-clause-heard g c = let heard = c.load_sent-sent.ensures.heard in let v = c.args.pass.now.seat.me.0.view in

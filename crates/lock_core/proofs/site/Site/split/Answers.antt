@@ -1,7 +1,7 @@
 use Rattle.std.proofs.Common.{arith, map, sym, ap, subst}
 use Rattle.atomic_table.proofs.Lists.{at_map}
 use Rattle.lock_core.specs.Pasts.{Tail, view_of, opening}
-use Rattle.lock_core.specs.MoveLaws.{split-moves}
+use Rattle.lock_core.specs.Laws.Move.{split-moves}
 use Rattle.lock_core.proofs.Living.{lived-split}
 use Rattle.lock_core.proofs.SiteLaws.{splits-kept}
 use Rattle.lock_core.proofs.site.Site.split.Goals as goal

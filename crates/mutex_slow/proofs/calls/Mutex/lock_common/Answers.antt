@@ -11,8 +11,9 @@ use Rattle.mutex_slow.specs.MutexPlaces.{seen_of}
 use Rattle.lock_core.proofs.Within.{err-map, interrupts-fronts, tallies-answer, tried-fronts, tried-interrupts, tried-then}
 use Rattle.lock_core.specs.declared.how.How.{How}
 use Rattle.lock_core.specs.declared.how.How.TheVariants.{Spun}
-use Rattle.mutex_slow.specs.MutexPlaces.{dozes_of, CountsBy, CountsInLine, GotInLine, TakesOpen}
-use Rattle.mutex_slow.proofs.Opening.{counts-in-line, dozes-none, dozes-within, ok-both, ok-map, opens-within, rises-on}
+use Rattle.mutex_slow.specs.MutexPlaces.{CountsBy, CountsInLine, GotInLine, TakesOpen}
+use Rattle.cpu_task.proofs.SleepCounts.{dozes-none, dozes-within, rises-on}
+use Rattle.mutex_slow.proofs.Opening.{counts-in-line, ok-both, ok-map, opens-within}
 use Rattle.mutex_slow.proofs.calls.Mutex.lock_common.Goals as goal
 
 pub returns-clause-interrupted : goal.returns-clause-interrupted
@@ -67,5 +68,4 @@ pub returns-then-spin-clause-dozed : goal.returns-then-spin-clause-dozed
 returns-then-spin-clause-dozed g c = dozes-none _ _ _ _ c.spin.ensures.sleeps c.spin.ensures.still.dozes
 
 pub returns-clause-dozed : goal.returns-clause-dozed
-returns-clause-dozed g c = let sleeps = g.C.Cpu.sleeps in dozes-within (sleeps c.args.cpu.now) (sleeps c.spin.new.cpu) (sleeps c.lock_in_line-got.new.cpu) c.args.pass.now.dozes (dozes_of c.spin.new.pass.pass.seat.me.0.view) (dozes_of c.lock_in_line-got.new.pass.seat.me.0.view) c.lock_in_line-got.new.dozes
-    c.spin.ensures.sleeps (sym c.spin.ensures.on.own.dozed ∙ c.spin.ensures.still.dozes) c.lock_in_line-got.ensures.dozed c.lock_in_line-got.ensures.counted
+returns-clause-dozed g c = let sleeps = g.C.Cpu.sleeps in dozes-within _ _ (sleeps c.lock_in_line-got.new.cpu) (sleeps c.lock_in_line-got.new.cpu) _ _ _ _ c.spin.ensures.sleeps (sym c.spin.ensures.on.own.dozed ∙ c.spin.ensures.still.dozes) c.lock_in_line-got.ensures.dozed refl c.lock_in_line-got.ensures.counted

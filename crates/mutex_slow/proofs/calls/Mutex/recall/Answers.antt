@@ -4,9 +4,9 @@ use Rattle.lock_core.specs.Layout.{site}
 use Rattle.lock_core.specs.Records.{bit}
 use Rattle.lock_core.specs.Kinds.{mutex}
 use Rattle.lock_core.specs.Locked.{IsLockedThen}
-use Rattle.lock_core.specs.LockedLaws.{ran-steps}
+use Rattle.lock_core.specs.Laws.Locked.{ran-steps}
 use Rattle.lock_core.specs.Pasts.{Moves}
-use Rattle.lock_core.specs.SiteRunLaws.{ran-each, ran-so, step-by}
+use Rattle.lock_core.specs.Laws.SiteRun.{ran-each, ran-so, step-by}
 use Rattle.lock_core.specs.SiteStated.{IsSiteMove}
 use Rattle.lock_core.proofs.Showing.{latest-shown}
 use Rattle.osq_nodes.specs.OsqHandles.{fronts_in}
@@ -14,8 +14,8 @@ use Rattle.mutex_slow.specs.MutexPlaces.{line_of}
 use Rattle.qspin_word.proofs.Turning.{numbers}
 use Rattle.qspin_queue.proofs.Recalling.{counts-spin, each-lock, each-move}
 use Rattle.mutex_slow.specs.Mutexes.{Kept, MutexMoves, OwesNoWake, V, owner_at, owner_in, standing, standing_of, wait_lock_at}
-use Rattle.mutex_slow.specs.MutexLaws.{mutex-site, mutex-spin}
-use Rattle.mutex_slow.specs.StandingLaws.{owes-none}
+use Rattle.mutex_slow.specs.Laws.Mutex.{mutex-site, mutex-spin}
+use Rattle.mutex_slow.specs.Laws.Standing.{owes-none}
 use Rattle.mutex_slow.specs.MutexHandles.{newest}
 use Rattle.mutex_slow.specs.MutexStated.{IsMutexThen, waits_on}
 use Rattle.mutex_slow.proofs.Stating.{mutex-states}
@@ -24,14 +24,14 @@ use Rattle.mutex_slow.proofs.Locking.{each-moment, mutex-locked}
 use Rattle.mutex_slow.proofs.calls.Mutex.recall.Goals as goal
 
 pub returns-clause-last : goal.returns-clause-last
-returns-clause-last g c = let l = latest-shown line_of (fronts_in c.args.pass.now.queue) c.recall.new.pass.seat.me.0.view c.recall.new.pass.seat.me.0.past c.recall.ensures.last in record { step = l.step; hand = l.hand; spin = l.spin }
+returns-clause-last g c = let l = latest-shown line_of (fronts_in c.args.pass.now.queue) c.recall.new.pass.seat.me.0.view c.recall.new.pass.seat.me.0.past c.recall.ensures.on.last in record { step = l.step; hand = l.hand; spin = l.spin }
 
 pub returns-clause-always : goal.returns-clause-always
-returns-clause-always g c = let k = c.args.self.now.site.table.shared.key in let o = g.O.Object.object in let n = g.O.Object.WORDS in let own = c.recall.ensures.last in
+returns-clause-always g c = let k = c.args.self.now.site.table.shared.key in let o = g.O.Object.object in let n = g.O.Object.WORDS in let own = c.recall.ensures.on.last in
     ran-each standing (Kept o n k) (MutexMoves k) (IsMutexThen o n k) (mutex-states o n k) (newest k) own.now own.before own.rest _ own.past_is c.recall.ensures.run
 
 pub returns-clause-states : goal.returns-clause-states
-returns-clause-states g c = let k = c.args.self.now.site.table.shared.key in let o = g.O.Object.object in let n = g.O.Object.WORDS in let own = c.recall.ensures.last in
+returns-clause-states g c = let k = c.args.self.now.site.table.shared.key in let o = g.O.Object.object in let n = g.O.Object.WORDS in let own = c.recall.ensures.on.last in
     each-moment (IsMutexThen o n k) (IsLockedThen o mutex n k owner_at waits_on) (mutex-locked o n k) _
     (ran-each standing (Kept o n k) (MutexMoves k) (IsMutexThen o n k) (mutex-states o n k) (newest k) own.now own.before own.rest _ own.past_is c.recall.ensures.run)
 
@@ -56,11 +56,11 @@ returns-clause-counts g c = let m = c.recall.ensures.marked in let u = c.recall.
 )
 
 pub returns-clause-lists : goal.returns-clause-lists
-returns-clause-lists g c = let k = c.args.self.now.site.table.shared.key in let o = g.O.Object.object in let n = g.O.Object.WORDS in let own = c.recall.ensures.last in
+returns-clause-lists g c = let k = c.args.self.now.site.table.shared.key in let o = g.O.Object.object in let n = g.O.Object.WORDS in let own = c.recall.ensures.on.last in
     becomes o n k (newest k) own.now own.before own.rest _ own.past_is c.recall.ensures.run
 
 pub returns-clause-wait_lock : goal.returns-clause-wait_lock
-returns-clause-wait_lock g c = let k = c.args.self.now.site.table.shared.key in let o = g.O.Object.object in let n = g.O.Object.WORDS in let own = c.recall.ensures.last in
+returns-clause-wait_lock g c = let k = c.args.self.now.site.table.shared.key in let o = g.O.Object.object in let n = g.O.Object.WORDS in let own = c.recall.ensures.on.last in
     each-lock standing (Kept o n k) (MutexMoves k) 1 (length k) wait_lock_at (mutex-spin o n k) (λ ws vs h. numbers o owned n k (site k ws) vs (mutex-site o n k ws vs h)) (newest k) own.now own.before own.rest _ own.past_is c.recall.ensures.run
 
 pub returns-clause-wait_moves : goal.returns-clause-wait_moves

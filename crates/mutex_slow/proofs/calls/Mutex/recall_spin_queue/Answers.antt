@@ -21,5 +21,5 @@ pub returns-clause-counts : goal.returns-clause-counts
 returns-clause-counts g c = subst (λ tasks. Ran node_marks (newest tasks) (IsOsqMove tasks) (past_of c.recall_queue.new.pass)) c.args.self.now.sized c.recall_queue.ensures.counts
 
 pub returns-clause-out : goal.returns-clause-out
-returns-clause-out g c = let e = c.recall_queue.ensures in let was = c.requires.own in let said = ap {A = Hand} (λ h. h.task) e.number.1 ∙ (sym was.queued.sits.task ∙ (was.same ∙ was.sits.task)) in
-    out-of-queue c.args.self.now.osq c.recall_queue.new.pass _ e.own e.mine said (ap (λ x. x.place) e.node.0 ∙ was.off)
+returns-clause-out g c = let e = c.recall_queue.ensures in let was = c.requires.own in let said = ap {A = Hand} (λ h. h.task) e.on.number.1 ∙ (sym was.queued.sits.task ∙ (was.same ∙ was.sits.task)) in
+    out-of-queue c.args.self.now.osq c.recall_queue.new.pass _ e.on.own e.mine said (ap (λ x. x.place) e.node.0 ∙ was.off)

@@ -4,4 +4,4 @@ use Rattle.mutex_slow.specs.MutexPlaces.{line_of}
 use Rattle.mutex_slow.proofs.calls.Mutex.recall_wait_lock.Goals as goal
 
 pub returns-clause-last : goal.returns-clause-last
-returns-clause-last g c = let l = latest-shown line_of (fronts_in c.args.pass.now.queue) c.recall_spin_lock.new.pass.seat.me.0.view c.recall_spin_lock.new.pass.seat.me.0.past c.recall_spin_lock.ensures.last in record { step = l.step; hand = l.hand; spin = l.spin }
+returns-clause-last g c = let l = latest-shown line_of (fronts_in c.args.pass.now.queue) c.recall_spin_lock.new.pass.seat.me.0.view c.recall_spin_lock.new.pass.seat.me.0.past c.recall_spin_lock.ensures.on.last in record { step = l.step; hand = l.hand; spin = l.spin }

@@ -19,4 +19,4 @@ misses-err (Err word) v u p q out own goes missed found fits = λ reads. let som
 
 pub returns-clause-misses : goal.returns-clause-misses
 returns-clause-misses g c = misses-err c.take_free.result c.args.pass.now.pass.seat.me.0.view c.take_free.new.pass.seat.me.0.view c.args.pass.now.pass.seat.me.0.past c.take_free.new.pass.seat.me.0.past
-    (sym c.requires.own.held ∙ c.requires.out) c.take_free.ensures.last c.take_free.ensures.goes_on c.take_free.ensures.missed c.take_free.ensures.found c.take_free.ensures.word
+    (sym c.requires.own.held ∙ c.requires.out) c.take_free.ensures.on.last c.take_free.ensures.on.goes_on c.take_free.ensures.missed c.take_free.ensures.found c.take_free.ensures.word

@@ -1,16 +1,16 @@
 use Rattle.std.proofs.Common.{subst, length, sym, ◌∙◌}
 use Rattle.word_bits.specs.Histories.{Plan}
 use Rattle.lock_core.specs.Pasts.{EachMoment, Moves, Ran, opening}
-use Rattle.lock_core.specs.SiteRunLaws.{ran-each, ran-so}
+use Rattle.lock_core.specs.Laws.SiteRun.{ran-each, ran-so}
 use Rattle.osq_nodes.specs.OsqPlaces.{node_marks}
 use Rattle.osq_nodes.specs.OsqStated.{IsSpinQueue}
 use Rattle.osq_nodes.specs.OsqRuled.{OsqKept, OsqMoves, IsOsqMove, idle, newest, no_calls}
-use Rattle.osq_nodes.specs.OsqRuledLaws.{osq-states, place-back, swaps-back, its-place}
+use Rattle.osq_nodes.specs.Laws.OsqRuled.{osq-states, place-back, swaps-back, its-place}
 use Rattle.osq_nodes.proofs.Chaining.{becomes}
 use Rattle.osq_nodes.proofs.queue.Osq.recall_queue.Goals as goal
 
 pub returns-clause-always : goal.returns-clause-always
-returns-clause-always c = let k = c.args.self.now.site.table.shared.key in let own = c.recall.ensures.last in
+returns-clause-always c = let k = c.args.self.now.site.table.shared.key in let own = c.recall.ensures.on.last in
     ran-each node_marks (OsqKept k) (OsqMoves k) (IsSpinQueue (length k)) (osq-states k) (opening node_marks k idle) own.now own.before own.rest _ own.past_is c.recall.ensures.run
 
 pub returns-clause-queues : goal.returns-clause-queues
@@ -30,5 +30,5 @@ returns-clause-mine c = let n = length c.args.self.now.site.table.shared.key in 
       place = place-back x.place x.swaps x.found;
       swaps = counts.0;
       found = counts.1;
-      task = λ t e. its-place t own.now.hands own.now.marks own.seat v.hand (record { numbers = node_marks x }) own.hand is.kept (sym c.recall.ensures.own.task ∙ e) (so.named t) ∙ place-back x.place x.swaps x.found;
+      task = λ t e. its-place t own.now.hands own.now.marks own.seat v.hand (record { numbers = node_marks x }) own.hand is.kept (sym c.recall.ensures.on.own.task ∙ e) (so.named t) ∙ place-back x.place x.swaps x.found;
     }

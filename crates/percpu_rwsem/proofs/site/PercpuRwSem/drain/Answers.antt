@@ -12,7 +12,7 @@ use Rattle.percpu_rwsem.proofs.site.PercpuRwSem.drain.Goals as goal
 pub returns-then-is_err-clause-zero_below : goal.returns-then-is_err-clause-zero_below
 returns-then-is_err-clause-zero_below g c = let v = c.args.pass.now.pass.seat.me.0.view in let old = c.args.pass.now.pass.seat.me.0.past in let past = c.loop-next.pass.pass.seat.me.0.past in let new = c.drain.new.pass.seat.me.0.past in
     λ first is. subst (λ (f : ℕ). FindsZeros f c.loop-next.next v old new) (same_Some c.in-Some-seen.first first (sym c.in-Some-seen.is ∙ is))
-    (zeros-stay c.in-Some-seen.first c.loop-next.next v old past new c.drain.ensures.goes_on (c.loop-next.invariant.5).zeros)
+    (zeros-stay c.in-Some-seen.first c.loop-next.next v old past new c.drain.ensures.on.goes_on (c.loop-next.invariant.5).zeros)
 
 pub loop-next-preserved : goal.loop-next-preserved
 loop-next-preserved g c = let k = c.args.self.now.site.table.shared.key in let first = c.in-Some-seen.first in let n = c.loop-next.next in let v = c.args.pass.now.pass.seat.me.0.view in let x = c.loop-next.pass.pass.seat.me.0.view in let w = c.drain.new.pass.seat.me.0.view in
@@ -30,14 +30,14 @@ loop-next-preserved g c = let k = c.args.self.now.site.table.shared.key in let f
       i.1,
       omega (arith, from),
       search rules,
-      c.drain.ensures.own,
+      c.drain.ensures.on.own,
       record {
         seen_is = refl;
-        goes_on = λ p t. c.drain.ensures.goes_on p (d.goes_on p t);
-        last = λ _. c.drain.ensures.last;
+        goes_on = λ p t. c.drain.ensures.on.goes_on p (d.goes_on p t);
+        last = λ _. c.drain.ensures.on.last;
         on = search rules;
         all = search rules;
         looks = looks;
-        zeros = zeros-next first n v w old past new named looks c.drain.ensures.last free d.goes_on c.drain.ensures.goes_on d.zeros;
+        zeros = zeros-next first n v w old past new named looks c.drain.ensures.on.last free d.goes_on c.drain.ensures.on.goes_on d.zeros;
       },
     )

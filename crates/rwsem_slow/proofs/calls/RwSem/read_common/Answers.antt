@@ -25,7 +25,7 @@ returns-in-Err-clause-how g c = went-got (fronts_in c.args.pass.now.queue) (swap
 
 pub returns-in-Err-clause-line : goal.returns-in-Err-clause-line
 returns-in-Err-clause-line g c = went-place (fronts_in c.args.pass.now.queue) (swaps_in c.args.pass.now.queue) c.args.pass.now.tally c.answer.new.self c.in-Err.left c.args.pass.now.pass.seat.me.0.view c.read_add.new.pass.seat.me.0.view c.read_slowly-got.new.pass.seat.me.0.view c.args.pass.now.pass.seat.me.0.past c.read_slowly-got.new.pass.seat.me.0.past c.in-Err.ensures.transit
-    c.read_add.new.pass.seat.me.0.past c.read_add.ensures.last c.in-Err.ensures.left c.read_slowly-got.ensures.on.steps c.read_add.ensures.goes_on c.read_slowly-got.ensures.on.goes_on c.read_slowly-got.result c.read_slowly-got.ensures.line
+    c.read_add.new.pass.seat.me.0.past c.read_add.ensures.on.last c.in-Err.ensures.left c.read_slowly-got.ensures.on.steps c.read_add.ensures.on.goes_on c.read_slowly-got.ensures.on.goes_on c.read_slowly-got.result c.read_slowly-got.ensures.line
 
 pub returns-in-Err-clause-stood : goal.returns-in-Err-clause-stood
 returns-in-Err-clause-stood g c = quit-place (fronts_in c.args.pass.now.queue) (swaps_in c.args.pass.now.queue) c.args.pass.now.tally c.answer.new.self c.in-Err.left c.args.pass.now.pass.seat.me.0.view c.read_add.new.pass.seat.me.0.view c.read_slowly-got.new.pass.seat.me.0.view c.args.pass.now.pass.seat.me.0.past c.read_slowly-got.new.pass.seat.me.0.past c.in-Err.ensures.transit c.read_slowly-got.result c.read_slowly-got.ensures.lock
@@ -36,8 +36,8 @@ returns-in-Err-clause-interrupted g c = let fronts = fronts_in c.args.pass.now.q
     let shut = subst (λ (n : ℕ). IsReadFree n → ⊥) sum left.3 in let hand = ap (λ (z : V). z.hand) is in let steps = ap (λ (z : V). z.steps) is in let appends = ap (λ (z : V). z.ext.appends) is in
     waits-quit fronts swaps tally c.answer.new.self true word (shown_of c.args.pass.now) a.view u.view a.past u.past
     (first-tried fronts swaps tally word v.view a.view v.past a.past hand steps (ap (λ (z : V). z.spin.entries) is) appends)
-    (ap (λ (n : ℕ). record { appends = n }) appends) c.read_add.ensures.goes_on (ap (λ (h : Hand). h.held) hand ∙ c.requires.out)
-    (first-sees fronts swaps tally word v.view a.view v.past a.past hand steps true c.read_add.ensures.last (subst (λ (n : ℕ). FoundAt count_at n a.past) same left.1) c.read_add.ensures.goes_on
+    (ap (λ (n : ℕ). record { appends = n }) appends) c.read_add.ensures.on.goes_on (ap (λ (h : Hand). h.held) hand ∙ c.requires.out)
+    (first-sees fronts swaps tally word v.view a.view v.past a.past hand steps true c.read_add.ensures.on.last (subst (λ (n : ℕ). FoundAt count_at n a.past) same left.1) c.read_add.ensures.on.goes_on
     (free-or-shut word (word + 256) transit.2 (omega arith) (omega arith) (λ f none. absurd (shut f)) (λ not flags. (transit.2, flags))))
     c.read_slowly-got.ensures.on.steps c.read_slowly-got.ensures.on.goes_on
     c.read_slowly-got.result c.read_slowly-got.ensures.lock c.read_slowly-got.ensures.waited c.read_slowly-got.ensures.consumed c.read_slowly-got.ensures.pending
@@ -45,8 +45,8 @@ returns-in-Err-clause-interrupted g c = let fronts = fronts_in c.args.pass.now.q
 pub returns-in-Ok-clause-opened : goal.returns-in-Ok-clause-opened
 returns-in-Ok-clause-opened g c = λ _. let v = c.args.pass.now.pass.seat.me.0 in let u = c.read_add.new.pass.seat.me.0 in let free = c.in-Ok.ensures.free in let shown_v = shown_of c.args.pass.now in let noted = ap (λ (z : V). z.steps) c.note_reader.ensures.kept in
     takes-within Shared (λ n. IsReadFree (n + 256)) shown_v shown_v (shown_of (record { pass = c.read_add.new.pass; queue = c.args.pass.now.queue; tally = c.args.pass.now.tally; counts = c.args.pass.now.counts })) (shown_of (record { pass = c.note_reader.new.pass; queue = c.args.pass.now.queue; tally = c.args.pass.now.tally; counts = c.args.pass.now.counts })) refl (omega arith) (λ p t. t)
-    (took-since g.O.Object.object c.args.self.now.site.table.shared.key Shared (λ n. IsReadFree (n + 256)) v.view u.view v.past u.past free.0 (v.view.steps, omega arith, c.in-Ok.ensures.took) c.read_add.ensures.last c.read_add.ensures.goes_on free.1 free.2)
-    (omega (arith, noted)) c.note_reader.ensures.goes_on
+    (took-since g.O.Object.object c.args.self.now.site.table.shared.key Shared (λ n. IsReadFree (n + 256)) v.view u.view v.past u.past free.0 (v.view.steps, omega arith, c.in-Ok.ensures.took) c.read_add.ensures.on.last c.read_add.ensures.on.goes_on free.1 free.2)
+    (omega (arith, noted)) c.note_reader.ensures.on.goes_on
 
 pub returns-in-Err-clause-opened : goal.returns-in-Err-clause-opened
 returns-in-Err-clause-opened g c = slow-reads _ c.in-Err.left (seen_of c.read_add.new.pass) (seen_of c.read_slowly-got.new.pass) c.read_slowly-got.result c.read_slowly-got.ensures.line

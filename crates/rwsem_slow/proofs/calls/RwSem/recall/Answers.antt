@@ -4,9 +4,9 @@ use Rattle.word_bits.specs.LockWords.{counted}
 use Rattle.lock_core.specs.Kinds.{semaphore}
 use Rattle.lock_core.specs.Layout.{site}
 use Rattle.lock_core.specs.Locked.{IsLockedThen}
-use Rattle.lock_core.specs.LockedLaws.{ran-steps}
+use Rattle.lock_core.specs.Laws.Locked.{ran-steps}
 use Rattle.lock_core.specs.Pasts.{Moves}
-use Rattle.lock_core.specs.SiteRunLaws.{ran-each, ran-so, step-by}
+use Rattle.lock_core.specs.Laws.SiteRun.{ran-each, ran-so, step-by}
 use Rattle.lock_core.specs.SiteStated.{IsSiteMove}
 use Rattle.lock_core.proofs.Showing.{latest-shown}
 use Rattle.osq_nodes.specs.OsqHandles.{fronts_in}
@@ -18,7 +18,7 @@ use Rattle.rwsem_wake.specs.SemParts.{apart_hand}
 use Rattle.rwsem_wake.specs.RwSemPlaces.{line_of}
 use Rattle.rwsem_wake.specs.RwSemViews.{IsDone, V, count_at}
 use Rattle.rwsem_slow.specs.RwSems.{Kept, RwSemMoves, standing, wait_lock_at}
-use Rattle.rwsem_slow.specs.RwSemLaws.{sem-site, sem-spin}
+use Rattle.rwsem_slow.specs.Laws.RwSem.{sem-site, sem-spin}
 use Rattle.rwsem_slow.specs.RwSemHandles.{newest}
 use Rattle.rwsem_slow.specs.RwSemStated.{IsRwSemThen, stance, waits_on}
 use Rattle.rwsem_slow.proofs.Stating.{sem-then}
@@ -27,14 +27,14 @@ use Rattle.rwsem_slow.proofs.Locking.{sem-locked}
 use Rattle.rwsem_slow.proofs.calls.RwSem.recall.Goals as goal
 
 pub returns-clause-last : goal.returns-clause-last
-returns-clause-last g c = let l = latest-shown line_of (fronts_in c.args.pass.now.queue) c.recall.new.pass.seat.me.0.view c.recall.new.pass.seat.me.0.past c.recall.ensures.last in record { step = l.step; hand = l.hand; spin = l.spin }
+returns-clause-last g c = let l = latest-shown line_of (fronts_in c.args.pass.now.queue) c.recall.new.pass.seat.me.0.view c.recall.new.pass.seat.me.0.past c.recall.ensures.on.last in record { step = l.step; hand = l.hand; spin = l.spin }
 
 pub returns-clause-always : goal.returns-clause-always
-returns-clause-always g c = let k = c.args.self.now.site.table.shared.key in let o = g.O.Object.object in let n = g.O.Object.WORDS in let own = c.recall.ensures.last in
+returns-clause-always g c = let k = c.args.self.now.site.table.shared.key in let o = g.O.Object.object in let n = g.O.Object.WORDS in let own = c.recall.ensures.on.last in
     ran-each standing (Kept o n k) (RwSemMoves k) (IsRwSemThen o n k) (sem-then o n k) (newest k) own.now own.before own.rest _ own.past_is c.recall.ensures.run
 
 pub returns-clause-states : goal.returns-clause-states
-returns-clause-states g c = let k = c.args.self.now.site.table.shared.key in let o = g.O.Object.object in let n = g.O.Object.WORDS in let own = c.recall.ensures.last in
+returns-clause-states g c = let k = c.args.self.now.site.table.shared.key in let o = g.O.Object.object in let n = g.O.Object.WORDS in let own = c.recall.ensures.on.last in
     ran-each standing (Kept o n k) (RwSemMoves k) (IsLockedThen o semaphore n k count_at waits_on) (sem-locked o n k) (newest k) own.now own.before own.rest _ own.past_is c.recall.ensures.run
 
 pub returns-clause-moves : goal.returns-clause-moves
@@ -61,11 +61,11 @@ returns-clause-counts g c = let m = c.recall.ensures.marked in let u = c.recall.
 )
 
 pub returns-clause-lists : goal.returns-clause-lists
-returns-clause-lists g c = let k = c.args.self.now.site.table.shared.key in let o = g.O.Object.object in let n = g.O.Object.WORDS in let own = c.recall.ensures.last in
+returns-clause-lists g c = let k = c.args.self.now.site.table.shared.key in let o = g.O.Object.object in let n = g.O.Object.WORDS in let own = c.recall.ensures.on.last in
     becomes o n k (newest k) own.now own.before own.rest _ own.past_is c.recall.ensures.run
 
 pub returns-clause-wait_lock : goal.returns-clause-wait_lock
-returns-clause-wait_lock g c = let k = c.args.self.now.site.table.shared.key in let o = g.O.Object.object in let n = g.O.Object.WORDS in let own = c.recall.ensures.last in
+returns-clause-wait_lock g c = let k = c.args.self.now.site.table.shared.key in let o = g.O.Object.object in let n = g.O.Object.WORDS in let own = c.recall.ensures.on.last in
     each-lock standing (Kept o n k) (RwSemMoves k) 1 (length k) wait_lock_at (sem-spin o n k) (λ ws vs h. numbers o counted n k (site k ws) vs (sem-site o n k ws vs h)) (newest k) own.now own.before own.rest _ own.past_is c.recall.ensures.run
 
 pub returns-clause-wait_moves : goal.returns-clause-wait_moves

@@ -3,7 +3,7 @@ use Rattle.lock_core.proofs.Within.{sees-within}
 use Rattle.rwsem_slow.specs.RwSemHandles.{shown_of}
 use Rattle.rwsem_wake.specs.RwSemPlaces.{seen_of}
 use Rattle.rwsem_wake.specs.RwSemViews.{V}
-use Rattle.rwsem_slow.proofs.Counting.{answers-rise}
+use Rattle.cpu_task.proofs.SleepCounts.{answers-rise}
 use Rattle.lock_core.specs.declared.how.How.TheVariants.{Spun}
 use Rattle.lock_core.specs.declared.view.Held.TheVariants.{Alone}
 use Rattle.rwsem_slow.specs.RwSemOpening.{IsOpen}
@@ -24,7 +24,7 @@ returns-clause-saw g c = λ failed. let looks = c.is_reader_owned.ensures.kept i
     inr (
       saw.0,
       sees-within (shown_of c.args.pass.now) (seen_of c.is_reader_owned.new.pass) (seen_of c.spin-took.new.pass) (shown_of (record { pass = c.spin-took.new.pass; queue = c.unlock.new.pass; tally = c.args.pass.now.tally; counts = c.args.pass.now.counts }))
-          (ap (λ (z : V). z.hand.task) looks) (omega (arith, steps)) c.is_reader_owned.ensures.goes_on saw.1 refl (omega arith) (λ p e. e),
+          (ap (λ (z : V). z.hand.task) looks) (omega (arith, steps)) c.is_reader_owned.ensures.on.goes_on saw.1 refl (omega arith) (λ p e. e),
     )
 
 pub returns-then-need_resched-clause-rescheds : goal.returns-then-need_resched-clause-rescheds
@@ -33,7 +33,7 @@ returns-then-need_resched-clause-rescheds g c = answers-rise (g.C.Cpu.rescheds c
 pub returns-clause-opened : goal.returns-clause-opened
 returns-clause-opened g c = λ took. let looks = c.is_reader_owned.ensures.kept in let steps = ap (λ (z : V). z.steps) looks in
     takes-within Alone (IsOpen Spun) (shown_of c.args.pass.now) (seen_of c.is_reader_owned.new.pass) (seen_of c.spin-took.new.pass) (shown_of (record { pass = c.spin-took.new.pass; queue = c.unlock.new.pass; tally = c.args.pass.now.tally; counts = c.args.pass.now.counts }))
-    (ap (λ (z : V). z.hand.task) looks) (omega (arith, steps)) c.is_reader_owned.ensures.goes_on (c.spin-took.ensures.opened took) (omega arith) (λ p t. t)
+    (ap (λ (z : V). z.hand.task) looks) (omega (arith, steps)) c.is_reader_owned.ensures.on.goes_on (c.spin-took.ensures.opened took) (omega arith) (λ p t. t)
 
 pub returns-clause-queue : goal.returns-clause-queue
-returns-clause-queue g c = λ p t. c.unlock.ensures.goes_on p (c.lock.ensures.goes_on p t)
+returns-clause-queue g c = λ p t. c.unlock.ensures.on.goes_on p (c.lock.ensures.on.goes_on p t)

@@ -3,7 +3,8 @@ use Rattle.lock_core.specs.declared.view.Hand.{Hand}
 use Rattle.rwsem_wake.specs.RwSemViews.{V}
 use Rattle.rwsem_wake.specs.RwSemPlaces.{seen_of}
 use Rattle.lock_core.proofs.Within.{pending-within}
-use Rattle.rwsem_slow.proofs.Counting.{between-again, between-on, dozes-again}
+use Rattle.cpu_task.proofs.SleepCounts.{dozes-again}
+use Rattle.rwsem_slow.proofs.Counting.{between-again, between-on}
 use Rattle.rwsem_slow.proofs.ReaderSteps.{dozes-since, waits-again}
 use Rattle.rwsem_slow.proofs.WaitStates.{reader-sleeps, tried-same}
 use Rattle.rwsem_slow.proofs.reader.sleep.wait.Goals as goal

@@ -3,7 +3,8 @@ use Rattle.lock_core.specs.declared.view.Held.TheVariants.{No}
 use Rattle.lock_core.specs.Views.{SpinRests}
 use Rattle.cpu_task.specs.CpuCounting.{Dozes}
 use Rattle.rwsem_wake.specs.declared.view.Wait.TheVariants.{Reads}
-use Rattle.rwsem_wake.specs.RwSemPlaces.{AreCounts, MovesOn, dozes_of}
+use Rattle.lock_core.specs.SiteHandles.{MovesOn}
+use Rattle.rwsem_wake.specs.RwSemPlaces.{AreCounts, dozes_of}
 use Rattle.rwsem_slow.specs.SleepCounting.{SleepsBetween}
 use Rattle.rwsem_slow.specs.Queued.{WaitsOn}
 use Rattle.rwsem_slow.proofs.reader.sleep.wait.Given as goal

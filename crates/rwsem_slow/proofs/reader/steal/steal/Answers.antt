@@ -3,9 +3,8 @@ use Rattle.lock_core.specs.declared.pass.Face.{Face}
 use Rattle.lock_core.specs.declared.view.Held.TheVariants.{Shared}
 use Rattle.lock_core.specs.Pasts.{IsOwnStep, Tail}
 use Rattle.lock_core.specs.Records.{bit}
-use Rattle.lock_core.proofs.Sitting.{sits-on}
+use Rattle.lock_core.proofs.Sitting.{sits-on, sits-took, some-number}
 use Rattle.rwsem_count.specs.declared.view.Bias.TheVariants.{Clear}
-use Rattle.rwsem_count.proofs.Sitting.{some-number, sits-took}
 use Rattle.rwsem_wake.specs.declared.view.SemHand.{SemHand}
 use Rattle.rwsem_wake.proofs.Holding.{holds-by}
 use Rattle.rwsem_wake.specs.RwSemViews.{V, with_sem, with_wake}
@@ -24,8 +23,7 @@ step-hint-requires-clause-lets g c = let own = some-number c.args.pass.now.face.
 
 pub returns-then-may_steal-clause-own : goal.returns-then-may_steal-clause-own
 returns-then-may_steal-clause-own g c = let gets = c.step-hint.ensures.told.0 (subst (λ (z : ℕ). MaySteal z c.step-hint.result) c.requires.left (c.may_steal.ensures.0 c.if-may_steal.true)) in
-    sits-took biased c.args.site.now.table.shared.key c.args.site.now.table.shared.table_id c.args.pass.now.seat.table_id c.set_held.new.self.seat.table_id c.args.pass.now.seat.me c.set_held.new.self.seat.me c.args.pass.now.face c.set_held.new.self.face Clear Shared gets.0 gets.1 _ _
-    (ap (λ s. s.me.0.view) c.set_held.ensures.seat ∙ gets.3.0) (omega arith) ((gets.2 c.args.site.now.table.shared.key c.requires.own.plan).within) c.requires.out c.requires.numbered (ap (λ s. s.table_id) c.set_held.ensures.seat ∙ c.step-hint.ensures.own.0) (ap (λ s. s.me.1) c.set_held.ensures.seat ∙ gets.3.1)
+    sits-took {me = c.args.pass.now.seat.me} Shared gets.0 gets.1 _ (ap (λ s. s.me.0.view) c.set_held.ensures.seat ∙ gets.3.0) ((gets.2 c.args.site.now.table.shared.key c.requires.own.plan).within) c.requires.out c.requires.numbered (ap (λ s. s.table_id) c.set_held.ensures.seat ∙ c.step-hint.ensures.own.0) (ap (λ s. s.me.1) c.set_held.ensures.seat ∙ gets.3.1)
     (c.set_held.ensures.face ∙ ap (λ (f : Face). record f { held = Shared }) c.step-hint.ensures.face) c.requires.own
 
 pub returns-then-may_steal-clause-took : goal.returns-then-may_steal-clause-took
@@ -47,8 +45,7 @@ returns-then-may_steal-clause-goes_on g c = λ p t. subst (Tail p) (sym (ap (λ 
 
 pub returns-clause-own : goal.returns-clause-own
 returns-clause-own g c = let turn = c.step-hint.ensures.told.1 (λ m. absurd (let e = ap bit (sym c.if-may_steal.false ∙ c.may_steal.ensures.1 (subst (λ (z : ℕ). MaySteal z c.step-hint.result) (sym c.requires.left) m)) in omega (arith, e))) in
-    sits-on c.args.site.now.table.shared.key c.args.site.now.table.shared.table_id c.args.pass.now.seat.table_id c.step-hint.new.pass.seat.table_id c.args.pass.now.seat.me c.step-hint.new.pass.seat.me c.args.pass.now.face c.step-hint.new.pass.face
-    c.step-hint.ensures.own.0 turn.1 (ap (λ v. v.hand) turn.0) (let n = ap (λ v. v.steps) turn.0 in omega (arith, n)) c.step-hint.ensures.face c.requires.own
+    sits-on c.step-hint.ensures.own.0 turn.1 (ap (λ v. v.hand) turn.0) (let n = ap (λ v. v.steps) turn.0 in omega (arith, n)) c.step-hint.ensures.face c.requires.own
 
 pub returns-clause-missed : goal.returns-clause-missed
 returns-clause-missed g c = λ is. (c.step-hint.ensures.told.1 (λ m. absurd (let e = ap bit (sym c.if-may_steal.false ∙ c.may_steal.ensures.1 (subst (λ (z : ℕ). MaySteal z c.step-hint.result) (sym c.requires.left) m)) in omega (arith, e)))).0

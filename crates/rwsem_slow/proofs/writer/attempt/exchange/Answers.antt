@@ -1,6 +1,4 @@
-use Rattle.std.proofs.Common.{ap}
 use Rattle.lock_core.specs.declared.how.How.TheVariants.{Slept}
-use Rattle.lock_core.specs.declared.pass.Face.{Face}
 use Rattle.lock_core.specs.declared.view.Held.TheVariants.{Alone}
 use Rattle.rwsem_slow.specs.RwSemOpening.{IsOpen}
 use Rattle.rwsem_slow.proofs.WriterSteps.{mark-asks, mark-fails}
@@ -9,7 +7,7 @@ use Rattle.rwsem_slow.proofs.writer.attempt.exchange.Goals as goal
 
 pub returns-in-Take-clause-opened : goal.returns-in-Take-clause-opened
 returns-in-Take-clause-opened g c = λ is. let e = c.sees_mark-marked.ensures in
-    takes-behind c.args.site.now Alone (IsOpen Slept) c.args.pass.now c.sees_mark-marked.new.pass c.take.new.pass c.requires.own e.own (ap (λ (f : Face). f.task) e.face) e.later e.goes_on (c.take.ensures.opened is)
+    takes-behind c.args.site.now Alone (IsOpen Slept) c.args.pass.now c.sees_mark-marked.new.pass c.take.new.pass c.requires.own e.on.own e.on.task e.on.steps e.on.goes_on (c.take.ensures.opened is)
 
 pub ask-requires-clause-tried : goal.ask-requires-clause-tried
 ask-requires-clause-tried g c = (mark-asks c.args.pass.now.seat.me.0.view c.sees_mark-marked.new.pass.seat.me.0.view c.requires.queued c.requires.list c.args.standing.me c.args.standing.first c.requires.first c.args.standing.alone c.args.overdue c.requires.only c.args.count c.requires.lawful c.requires.tried c.sees_mark-marked.result c.sees_mark-marked.ensures.knows c.in-Mark.new c.in-Mark.ensures.table).0.1

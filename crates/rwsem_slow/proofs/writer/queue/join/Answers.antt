@@ -31,15 +31,15 @@ returns-else-alone-clause-came g c = writer-behind c.args.pass.now.seat.me.0.vie
     (let a = c.append.ensures.later in let b = c.first.ensures.later in omega (arith, a, b)) c.append.ensures.kept (subst (λ (r : Option Waiter). FindsFirst list_of with_list c.append.new.pass.seat.me.0.view r c.first.new.pass.seat.me.0.view) c.in-Some-first.is c.first.ensures.told) refl c.requires.outside.apart c.if-alone.false
 
 pub returns-then-alone-clause-goes_on : goal.returns-then-alone-clause-goes_on
-returns-then-alone-clause-goes_on g c = λ p t. c.set_waiters.ensures.goes_on p (c.first.ensures.goes_on p (c.append.ensures.goes_on p t))
+returns-then-alone-clause-goes_on g c = λ p t. c.set_waiters.ensures.on.goes_on p (c.first.ensures.on.goes_on p (c.append.ensures.on.goes_on p t))
 
 pub returns-else-alone-clause-goes_on : goal.returns-else-alone-clause-goes_on
-returns-else-alone-clause-goes_on g c = λ p t. c.first.ensures.goes_on p (c.append.ensures.goes_on p t)
+returns-else-alone-clause-goes_on g c = λ p t. c.first.ensures.on.goes_on p (c.append.ensures.on.goes_on p t)
 
 pub returns-then-alone-clause-first : goal.returns-then-alone-clause-first
 returns-then-alone-clause-first g c = λ _. let later = c.append.ensures.later in let steps = ap (λ (z : V). z.steps) c.set_waiters.ensures.kept in (
   c.in-Some.task,
   sym c.requires.own.task ∙ (sym c.task.ensures ∙ c.in-Some.is),
-  since-within (seen_of c.args.pass.now) (seen_of c.append.new.pass) (seen_of c.first.new.pass) (seen_of c.set_waiters.new.pass) (ap (λ (z : V). z.hand.task) c.append.ensures.kept.view) later c.append.ensures.goes_on
-      (subst (λ (n : ℕ). FindsSince list_at n (seen_of c.append.new.pass) (seen_of c.first.new.pass)) (ap waiter_code c.in-Some-first.is ∙ ap (λ (n : ℕ). n + 1) c.if-alone.true) c.first.ensures.found) (omega (arith, steps)) c.set_waiters.ensures.goes_on,
+  since-within (seen_of c.args.pass.now) (seen_of c.append.new.pass) (seen_of c.first.new.pass) (seen_of c.set_waiters.new.pass) (ap (λ (z : V). z.hand.task) c.append.ensures.kept.view) later c.append.ensures.on.goes_on
+      (subst (λ (n : ℕ). FindsSince list_at n (seen_of c.append.new.pass) (seen_of c.first.new.pass)) (ap waiter_code c.in-Some-first.is ∙ ap (λ (n : ℕ). n + 1) c.if-alone.true) c.first.ensures.found) (omega (arith, steps)) c.set_waiters.ensures.on.goes_on,
 )

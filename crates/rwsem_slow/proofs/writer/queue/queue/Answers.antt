@@ -7,7 +7,7 @@ use Rattle.rwsem_wake.specs.RwSemViews.{V}
 use Rattle.rwsem_wake.specs.RwSemWakes.{woken_tasks}
 use Rattle.rwsem_slow.proofs.Marking.{marked, marks}
 use Rattle.rwsem_slow.proofs.WaitStates.{saw-keeps}
-use Rattle.lock_core.specs.SiteRunLaws.{found-at-step}
+use Rattle.lock_core.specs.Laws.SiteRun.{found-at-step}
 use Rattle.rwsem_wake.specs.RwSemPlaces.{seen_of}
 use Rattle.rwsem_wake.specs.RwSemViews.{count_at}
 use Rattle.rwsem_wake.specs.RwSemWakes.{kind_at}
@@ -30,10 +30,10 @@ returns-clause-woken g c = let n = c.look_listed-count.result in let came = c.jo
     let same = ap (λ (z : V). z.hand.task) look ∙ ap (λ (z : V). z.hand.task) came.is in let v = c.args.pass.now.seat.me.0 in let b = c.look_listed-count.new.pass.seat.me.0 in
     inr (
       n,
-      (b.view.steps, omega (arith, enters, looks), omega (arith, chooses, later), found-at-step b.view v.view.hand.task count_at n v.past b.past c.wake_tasks.new.pass.seat.me.0.past same c.look_listed-count.ensures.last c.look_listed-count.ensures.found (λ p t. c.look_listed-count.ensures.goes_on p (c.join.ensures.goes_on p t)) (λ p t. c.wake_tasks.ensures.goes_on p (c.choose_others.ensures.on.goes_on p t))),
+      (b.view.steps, omega (arith, enters, looks), omega (arith, chooses, later), found-at-step b.view v.view.hand.task count_at n v.past b.past c.wake_tasks.new.pass.seat.me.0.past same c.look_listed-count.ensures.on.last c.look_listed-count.ensures.found (λ p t. c.look_listed-count.ensures.on.goes_on p (c.join.ensures.goes_on p t)) (λ p t. c.wake_tasks.ensures.goes_on p (c.choose_others.ensures.on.goes_on p t))),
       λ even. let w = c.choose_others.ensures.wakes even in
           let set_before = ap (λ (x : SemWake). x.wakes) w.chosen.chose ∙ carried in
-          wakes-within (kind_at n) (seen_of c.args.pass.now) (seen_of c.look_listed-count.new.pass) (seen_of c.choose_others.new.pass) (seen_of c.wake_tasks.new.pass) c.args.counts.now.wakes c.args.counts.now.wakes c.wake_tasks.new.counts.wakes refl same (omega (arith, enters, looks)) (λ p t. c.look_listed-count.ensures.goes_on p (c.join.ensures.goes_on p t))
+          wakes-within (kind_at n) (seen_of c.args.pass.now) (seen_of c.look_listed-count.new.pass) (seen_of c.choose_others.new.pass) (seen_of c.wake_tasks.new.pass) c.args.counts.now.wakes c.args.counts.now.wakes c.wake_tasks.new.counts.wakes refl same (omega (arith, enters, looks)) (λ p t. c.look_listed-count.ensures.on.goes_on p (c.join.ensures.goes_on p t))
           (record { woken = woken_tasks c.choose_others.new.woken; wakes_of = record { was = w.was; first = w.first; written = w.written; owned = w.owned; saw = w.saw; woken_are = w.woken_are }; set = c.wake_tasks.ensures.counted.wakes ∙ (ap (λ (z : V). z.ext.wake.wakes) sets.is ∙ (λ i. slept (length (c.tasks.ensures i)) (set_before i))) })
           later c.wake_tasks.ensures.goes_on,
       λ odd. let tasks = c.tasks.ensures ∙ c.choose_others.ensures.none odd in

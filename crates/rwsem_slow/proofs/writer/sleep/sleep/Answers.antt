@@ -21,4 +21,4 @@ returns-in-Some-clause-heard g c = heard-on c.in-Some.why c.pending.new.pass.sea
 pub returns-in-Some-clause-pending : goal.returns-in-Some-clause-pending
 returns-in-Some-clause-pending g c = let steps = ap (λ (z : V). z.steps) c.unlock.ensures.kept in let took = c.lock.ensures.gained.took in let since = took.0 in let by_now = took.1 in
     pending-within (seen_of c.args.pass.now) (seen_of c.unlock.new.pass) (seen_of c.pending.new.pass) (seen_of c.lock.new.pass)
-    (ap (λ (z : V). z.hand.task) c.unlock.ensures.kept) (omega (arith, steps)) c.unlock.ensures.goes_on c.in-Some.ensures.pending (omega (arith, since, by_now)) c.lock.ensures.goes_on
+    (ap (λ (z : V). z.hand.task) c.unlock.ensures.kept) (omega (arith, steps)) c.unlock.ensures.on.goes_on c.in-Some.ensures.pending (omega (arith, since, by_now)) c.lock.ensures.on.goes_on

@@ -7,7 +7,7 @@ use Rattle.lock_core.specs.declared.how.How.TheVariants.{Slept}
 use Rattle.lock_core.specs.declared.view.Held.TheVariants.{Alone}
 use Rattle.rwsem_slow.specs.RwSemOpening.{IsOpen}
 use Rattle.rwsem_wake.specs.declared.duty.SemWake.{SemWake}
-use Rattle.rwsem_slow.proofs.Counting.{dozes-again, once-within, turns-again, turns-moved}
+use Rattle.cpu_task.proofs.SleepCounts.{dozes-again, once-within, turns-again, turns-moved}
 use Rattle.rwsem_slow.proofs.Opening.{takes-behind}
 use Rattle.rwsem_slow.proofs.writer.sleep.wait.Goals as goal
 

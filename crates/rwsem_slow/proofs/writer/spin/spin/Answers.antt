@@ -2,7 +2,7 @@ use Rattle.std.proofs.Common.{ap, arith}
 use Rattle.lock_core.proofs.Within.{sees-within}
 use Rattle.rwsem_wake.specs.RwSemPlaces.{seen_of}
 use Rattle.rwsem_wake.specs.RwSemViews.{V}
-use Rattle.rwsem_slow.proofs.Counting.{answers-rise}
+use Rattle.cpu_task.proofs.SleepCounts.{answers-rise}
 use Rattle.lock_core.specs.declared.how.How.TheVariants.{Spun}
 use Rattle.lock_core.specs.declared.view.Held.TheVariants.{Alone}
 use Rattle.rwsem_slow.specs.RwSemOpening.{IsOpen}
@@ -13,14 +13,14 @@ pub returns-then-is_reader_owned-clause-saw : goal.returns-then-is_reader_owned-
 returns-then-is_reader_owned-clause-saw g c = λ _. let i = c.loop.invariant in let saw = c.try_outside.ensures.saw c.if-try_outside.false in let looks = c.is_reader_owned.ensures.kept in let steps = ap (λ (z : V). z.steps) looks in (
   saw.0,
   sees-within (seen_of c.args.pass.now) (seen_of c.loop.pass) (seen_of c.try_outside.new.pass) (seen_of c.is_reader_owned.new.pass)
-      i.7.keeps.task i.7.keeps.counts.steps i.2.goes_on saw.1 (ap (λ (z : V). z.hand.saw) looks) (omega (arith, steps)) c.is_reader_owned.ensures.goes_on,
+      i.7.keeps.task i.7.keeps.counts.steps i.2.goes_on saw.1 (ap (λ (z : V). z.hand.saw) looks) (omega (arith, steps)) c.is_reader_owned.ensures.on.goes_on,
 )
 
 pub returns-then-need_resched-clause-saw : goal.returns-then-need_resched-clause-saw
 returns-then-need_resched-clause-saw g c = λ _. let i = c.loop.invariant in let saw = c.try_outside.ensures.saw c.if-try_outside.false in let looks = c.is_reader_owned.ensures.kept in let steps = ap (λ (z : V). z.steps) looks in (
   saw.0,
   sees-within (seen_of c.args.pass.now) (seen_of c.loop.pass) (seen_of c.try_outside.new.pass) (seen_of c.is_reader_owned.new.pass)
-      i.7.keeps.task i.7.keeps.counts.steps i.2.goes_on saw.1 (ap (λ (z : V). z.hand.saw) looks) (omega (arith, steps)) c.is_reader_owned.ensures.goes_on,
+      i.7.keeps.task i.7.keeps.counts.steps i.2.goes_on saw.1 (ap (λ (z : V). z.hand.saw) looks) (omega (arith, steps)) c.is_reader_owned.ensures.on.goes_on,
 )
 
 pub returns-then-need_resched-clause-rescheds : goal.returns-then-need_resched-clause-rescheds
@@ -29,4 +29,4 @@ returns-then-need_resched-clause-rescheds g c = let same = c.loop.invariant.9 in
 pub returns-then-try_outside-clause-opened : goal.returns-then-try_outside-clause-opened
 returns-then-try_outside-clause-opened g c = λ _. let on = c.loop.invariant.2 in let noted = ap (λ (z : V). z.steps) c.note_writer.ensures.kept in
     takes-before c.args.site.now Alone (IsOpen Spun) c.args.pass.now c.try_outside.new.pass c.note_writer.new.pass (takes-behind c.args.site.now Alone (IsOpen Spun) c.args.pass.now c.loop.pass c.try_outside.new.pass c.requires.own on.own on.task on.steps on.goes_on (c.try_outside.ensures.opened c.if-try_outside.true))
-    (omega (arith, noted)) c.note_writer.ensures.goes_on
+    (omega (arith, noted)) c.note_writer.ensures.on.goes_on

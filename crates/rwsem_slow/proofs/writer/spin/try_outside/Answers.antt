@@ -19,9 +19,9 @@ pub returns-in-Err-clause-saw : goal.returns-in-Err-clause-saw
 returns-in-Err-clause-saw g c = λ is. let v = c.args.pass.now.seat.me.0 in let u = c.try_unqueued.new.pass.seat.me.0 in let missed = c.in-Err.ensures.missed in (
   c.in-Err.field-0,
   sees-fronts (shown line_of v.view.fronts v.view v.past) (shown line_of v.view.fronts u.view u.past) v.view.fronts u.view.fronts 0 0 no_tally no_tally
-      (misses-by v.view.fronts 0 no_tally v.view u.view v.past u.past (sym c.requires.own.held ∙ c.requires.out) c.try_unqueued.ensures.last c.try_unqueued.ensures.goes_on false c.in-Err.field-0 missed.0 missed.1 missed.2 c.in-Err.ensures.found c.in-Err.ensures.shut).sees,
+      (misses-by v.view.fronts 0 no_tally v.view u.view v.past u.past (sym c.requires.own.held ∙ c.requires.out) c.try_unqueued.ensures.on.last c.try_unqueued.ensures.on.goes_on false c.in-Err.field-0 missed.0 missed.1 missed.2 c.in-Err.ensures.found c.in-Err.ensures.shut).sees,
 )
 
 pub returns-in-Ok-clause-opened : goal.returns-in-Ok-clause-opened
 returns-in-Ok-clause-opened g c = λ _. let v = c.args.pass.now.seat.me.0 in let u = c.try_unqueued.new.pass.seat.me.0 in let free = c.in-Ok.ensures.opened in
-    took-since g.O.Object.object c.args.site.now.table.shared.key Alone (IsOpen Spun) v.view u.view v.past u.past free.0 c.in-Ok.ensures.took c.try_unqueued.ensures.last c.try_unqueued.ensures.goes_on free.1 free.2
+    took-since g.O.Object.object c.args.site.now.table.shared.key Alone (IsOpen Spun) v.view u.view v.past u.past free.0 c.in-Ok.ensures.took c.try_unqueued.ensures.on.last c.try_unqueued.ensures.on.goes_on free.1 free.2

@@ -8,7 +8,7 @@ use Rattle.seq_fault.proofs.Faulting.{err-maps, ok-joins, faults-since, finds-be
 use Rattle.seq_fault.proofs.faults.SeqSite+Areas.fault.Goals as goal
 
 pub returns-clause-on : goal.returns-clause-on
-returns-clause-on c = record { own = c.validate.ensures.own; goes_on = λ p t. c.validate.ensures.goes_on p (c.read_optimistically.ensures.goes_on p (c.next_fault-page.ensures.goes_on p t)) }
+returns-clause-on c = record { own = c.validate.ensures.on.own; goes_on = λ p t. c.validate.ensures.on.goes_on p (c.read_optimistically.ensures.on.goes_on p (c.next_fault-page.ensures.on.goes_on p t)) }
 
 pub returns-clause-ok : goal.returns-clause-ok
 returns-clause-ok c =
@@ -30,8 +30,8 @@ returns-clause-read c =
     let before = c.in-Ok.read.before in
     let front = c.validate.new.pass.face.front in
     let e = c.in-Ok.ensures in
-    ok-joins c.validate.result (λ reply (t : (front ≡ c.in-Ok.read.front) × FoundAtStep u.hand.task (u.steps + 1) seq_at before pu pz) two. one-word-before v x _ _ _ c.next_fault-page.ensures.kept c.next_fault-page.ensures.goes_on front z
-    (reads-at-one-word x u z before front px pu pz c.read_optimistically.ensures.few e.two e.even e.first (subst (λ (n : ℕ). FoundAtStep x.hand.task (x.steps + 2) length_place n px pu) (sym t.0) e.measured) t.1 c.read_optimistically.ensures.goes_on c.validate.ensures.goes_on two))
+    ok-joins c.validate.result (λ reply (t : (front ≡ c.in-Ok.read.front) × FoundAtStep u.hand.task (u.steps + 1) seq_at before pu pz) two. one-word-before v x _ _ _ c.next_fault-page.ensures.kept c.next_fault-page.ensures.on.goes_on front z
+    (reads-at-one-word x u z before front px pu pz c.read_optimistically.ensures.few e.two e.even e.first (subst (λ (n : ℕ). FoundAtStep x.hand.task (x.steps + 2) length_place n px pu) (sym t.0) e.measured) t.1 c.read_optimistically.ensures.on.goes_on c.validate.ensures.on.goes_on two))
     (ok-joins c.validate.result (λ reply same again. (same, again)) c.validate.ensures.front c.validate.ensures.again) c.validate.ensures.counted
 
 pub returns-clause-raced : goal.returns-clause-raced
@@ -43,8 +43,8 @@ returns-clause-first c =
     let x = c.next_fault-page.new.pass.seat.me.0.view in
     let px = c.next_fault-page.new.pass.seat.me.0.past in
     let pu = c.read_optimistically.new.pass.seat.me.0.past in
-    err-maps c.validate.result (λ why t. finds-before v x _ _ _ c.next_fault-page.ensures.kept c.next_fault-page.ensures.goes_on 1 seq_at why.before
-    (found-longer px pu _ (subst (λ (n : ℕ). FoundAtStep x.hand.task (x.steps + 1) seq_at n px pu) (sym t.0) c.in-Ok.ensures.first) c.validate.ensures.goes_on)) c.validate.ensures.raced
+    err-maps c.validate.result (λ why t. finds-before v x _ _ _ c.next_fault-page.ensures.kept c.next_fault-page.ensures.on.goes_on 1 seq_at why.before
+    (found-longer px pu _ (subst (λ (n : ℕ). FoundAtStep x.hand.task (x.steps + 1) seq_at n px pu) (sym t.0) c.in-Ok.ensures.first) c.validate.ensures.on.goes_on)) c.validate.ensures.raced
 
 pub returns-clause-kept : goal.returns-clause-kept
 returns-clause-kept c =
@@ -66,13 +66,13 @@ returns-clause-few c =
     err-maps c.validate.result (λ why e. let one = ap (λ (z : V). z.steps) e in omega (arith, most, more, two, one)) c.validate.ensures.kept
 
 pub returns-in-Err-clause-on : goal.returns-in-Err-clause-on
-returns-in-Err-clause-on c = record { own = c.read_optimistically.ensures.own; goes_on = λ p t. c.read_optimistically.ensures.goes_on p (c.next_fault-page.ensures.goes_on p t) }
+returns-in-Err-clause-on c = record { own = c.read_optimistically.ensures.on.own; goes_on = λ p t. c.read_optimistically.ensures.on.goes_on p (c.next_fault-page.ensures.on.goes_on p t) }
 
 pub returns-in-Err-clause-raced : goal.returns-in-Err-clause-raced
 returns-in-Err-clause-raced c = inl c.in-Err.ensures.odd
 
 pub returns-in-Err-clause-first : goal.returns-in-Err-clause-first
-returns-in-Err-clause-first c = finds-before c.args.pass.now.pass.seat.me.0.view c.next_fault-page.new.pass.seat.me.0.view _ _ _ c.next_fault-page.ensures.kept c.next_fault-page.ensures.goes_on 1 seq_at c.in-Err.raced.before c.in-Err.ensures.raced
+returns-in-Err-clause-first c = finds-before c.args.pass.now.pass.seat.me.0.view c.next_fault-page.new.pass.seat.me.0.view _ _ _ c.next_fault-page.ensures.kept c.next_fault-page.ensures.on.goes_on 1 seq_at c.in-Err.raced.before c.in-Err.ensures.raced
 
 pub returns-in-Err-clause-kept : goal.returns-in-Err-clause-kept
 returns-in-Err-clause-kept c = steps-on c.args.pass.now.pass.seat.me.0.view c.next_fault-page.new.pass.seat.me.0.view c.read_optimistically.new.pass.seat.me.0.view c.next_fault-page.ensures.kept c.read_optimistically.ensures.few

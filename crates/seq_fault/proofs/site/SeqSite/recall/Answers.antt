@@ -1,8 +1,8 @@
 -- What the rule says of each moment and of each step.
 use Rattle.std.proofs.Common.{true}
 use Rattle.lock_core.specs.Pasts.{Moves}
-use Rattle.lock_core.specs.LockedLaws.{ran-steps-where}
-use Rattle.lock_core.specs.SiteRunLaws.{ran-each, ran-so}
+use Rattle.lock_core.specs.Laws.Locked.{ran-steps-where}
+use Rattle.lock_core.specs.Laws.SiteRun.{ran-each, ran-so}
 use Rattle.lock_core.specs.SiteStated.{IsSiteMoveWhere}
 use Rattle.seq_fault.specs.SeqRuled.{SeqKept, SeqMoves, newest, seq_at, unmarked}
 use Rattle.seq_fault.specs.SeqStated.{IsSeqSiteThen}
@@ -10,7 +10,7 @@ use Rattle.seq_fault.proofs.Stating.{rule-states, counts-enters, stays-at-one-wo
 use Rattle.seq_fault.proofs.site.SeqSite.recall.Goals as goal
 
 pub returns-clause-always : goal.returns-clause-always
-returns-clause-always g c = let k = c.args.self.now.site.table.shared.key in let o = g.O.Object.object in let n = g.O.Object.WORDS in let own = c.recall.ensures.last in
+returns-clause-always g c = let k = c.args.self.now.site.table.shared.key in let o = g.O.Object.object in let n = g.O.Object.WORDS in let own = c.recall.ensures.on.last in
     ran-each unmarked (SeqKept o n k) (SeqMoves k) (IsSeqSiteThen o n k) (rule-states o n k) (newest k) own.now own.before own.rest _ own.past_is c.recall.ensures.run
 
 pub returns-clause-entered : goal.returns-clause-entered

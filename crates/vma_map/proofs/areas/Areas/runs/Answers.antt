@@ -2,7 +2,7 @@
 use Rattle.std.proofs.Common.{sym, ap, ◌∙◌}
 use Rattle.word_bits.specs.PageMaps.{runs}
 use Rattle.vma_map.specs.Runs.{page_map}
-use Rattle.vma_map.specs.PageRunLaws.{runs-page_map}
+use Rattle.vma_map.specs.Laws.PageRun.{runs-page_map}
 use Rattle.vma_map.proofs.areas.Areas.runs.Goals as goal
 
 pub returns : goal.returns

@@ -1,5 +1,5 @@
 -- The pages of areas in order can be stored.
-use Rattle.vma_map.specs.SpaceLaws.{IsPageMap-page_map}
+use Rattle.vma_map.specs.Laws.Space.{IsPageMap-page_map}
 use Rattle.vma_map.proofs.areas.AreasValueObject.apply.Goals as goal
 
 pub returns-clause-sound : goal.returns-clause-sound

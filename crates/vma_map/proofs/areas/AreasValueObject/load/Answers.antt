@@ -2,8 +2,8 @@
 use Rattle.std.proofs.Common.{ap, ◌∙◌}
 use Rattle.word_bits.specs.PageMaps.{runs}
 use Rattle.vma_map.specs.Runs.{words_of_areas}
-use Rattle.vma_map.specs.PageRunLaws.{runs-page_map}
-use Rattle.vma_map.specs.SpaceLaws.{IsPageMap-page_map, IsSpace-runs}
+use Rattle.vma_map.specs.Laws.PageRun.{runs-page_map}
+use Rattle.vma_map.specs.Laws.Space.{IsPageMap-page_map, IsSpace-runs}
 use Rattle.vma_map.proofs.areas.AreasValueObject.load.Goals as goal
 
 pub returns-in_err-load-clause-none : goal.returns-in_err-load-clause-none

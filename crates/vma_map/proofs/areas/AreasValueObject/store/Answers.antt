@@ -2,8 +2,8 @@
 use Rattle.std.proofs.Common.{sym, ap, ◌∙◌, subst}
 use Rattle.word_bits.specs.PageMaps.{IsPageMap, runs}
 use Rattle.vma_map.specs.Runs.{page_map, words_of_areas}
-use Rattle.vma_map.specs.PageRunLaws.{runs-page_map}
-use Rattle.vma_map.specs.SpaceLaws.{IsPageMap-page_map}
+use Rattle.vma_map.specs.Laws.PageRun.{runs-page_map}
+use Rattle.vma_map.specs.Laws.Space.{IsPageMap-page_map}
 use Rattle.vma_map.proofs.areas.AreasValueObject.store.Goals as goal
 
 pub returns-clause-stored : goal.returns-clause-stored

@@ -3,7 +3,7 @@ use Rattle.std.proofs.Common.{◌≡◌, subst, arith}
 use Rattle.std.proofs.lemmas.Grind.{common_steps}
 use Rattle.word_bits.specs.Packed.{IsFound}
 use Rattle.vma_map.specs.Spaces.{IsCallOf, call_of}
-use Rattle.vma_map.specs.SpaceCallLaws.{call_of-exact}
+use Rattle.vma_map.specs.Laws.SpaceCall.{call_of-exact}
 use Rattle.vma_map.proofs.call.SpaceCall.call_of.Goals as goal
 
 pub returns-clause-exact : goal.returns-clause-exact

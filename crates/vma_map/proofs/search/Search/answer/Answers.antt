@@ -3,8 +3,8 @@ use Rattle.std.proofs.Common.{◌≤◌, ◌<◌, drop, Some, refl, sym, ap, sub
 use Rattle.std.specs.List.{AllByRecursion}
 use Rattle.word_bits.specs.declared.area.Area.{Area}
 use Rattle.word_bits.specs.PageMaps.{PageMap, runs}
-use Rattle.vma_map.specs.PageRunLaws.{page_map-runs}
-use Rattle.vma_map.specs.SpaceLaws.{IsSpace-runs}
+use Rattle.vma_map.specs.Laws.PageRun.{page_map-runs}
+use Rattle.vma_map.specs.Laws.Space.{IsSpace-runs}
 use Rattle.vma_map.specs.Spaces.{IsRunAt, stores}
 use Rattle.vma_map.proofs.Ascending.{last-packs, none-behind, run-found, run-none}
 use Rattle.vma_map.proofs.Narrowing.{number-first, parted-there, wanted-over}

@@ -1,0 +1,2 @@
+pub mod TableCall
+pub mod Table

@@ -1,0 +1,5 @@
+pub mod Move
+pub mod SiteRun
+pub mod Spin
+pub mod Locked
+pub mod NodeList

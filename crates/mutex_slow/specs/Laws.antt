@@ -1,0 +1,5 @@
+pub mod Coupled
+pub mod Duty
+pub mod Standing
+pub mod Mutex
+pub mod MutexSite

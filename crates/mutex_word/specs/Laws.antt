@@ -1,0 +1,4 @@
+pub mod Own
+pub mod OwnKinds
+pub mod OwnerRuled
+pub mod OwnerSite

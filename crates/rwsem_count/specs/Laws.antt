@@ -1,0 +1,4 @@
+pub mod Count
+pub mod Numbers
+pub mod CountRuled
+pub mod CountSite

@@ -1,0 +1,9 @@
+pub mod RwSemSite
+pub mod WakesGo
+pub mod ListSteps
+pub mod DutyRule
+pub mod Waiter
+pub mod RwSem
+pub mod Sleep
+pub mod RwSemList
+pub mod CountHosting

@@ -1,0 +1,4 @@
+pub mod Area
+pub mod PageRun
+pub mod SpaceCall
+pub mod Space
