@@ -9,7 +9,7 @@ use Rattle.word_bits.specs.Histories.{Plan, state_after}
 use Rattle.word_bits.proofs.States.{IsLawful, state_is_state}
 use Rattle.lock_core.specs.declared.view.Hand.{Hand}
 use Rattle.word_bits.specs.declared.call.CallWords.{CallWords}
-use Rattle.word_bits.specs.declared.call.Mode.TheVariants.{Int, Try}
+use Rattle.word_bits.specs.declared.call.Mode.TheVariants.{Int}
 use Rattle.word_bits.specs.Calls.{mode_of}
 use Rattle.lock_core.specs.declared.view.View.{View}
 use Rattle.lock_core.specs.declared.view.Held.TheVariants.{No}
@@ -22,7 +22,7 @@ use Rattle.lock_core.specs.Records.{row}
 use Rattle.lock_core.specs.Views.{consuming, next_entry}
 use Rattle.lock_core.specs.Shown.{IsNextCall}
 use Rattle.lock_core.specs.declared.how.Interrupted.{Interrupted}
-use Rattle.lock_core.specs.SitePasses.{Consumes, IsBusy, IsInterrupted, IsReading, MayNote}
+use Rattle.lock_core.specs.SitePasses.{Consumes, IsInterrupted, IsReading, MayNote}
 use Rattle.lock_core.proofs.HandLaws.{not-both}
 use Rattle.mutex_word.specs.Holders.{MissesOwner}
 use Rattle.lock_core.specs.Locking.{IsStored}
@@ -36,23 +36,6 @@ stored-next site p q own own' same = let task : (hand_in q).task ≡ (hand_in p)
 pub known-call : {X : Type 0} (x : Option X) → is_some x ≡ true → (call : X) × (x ≡ Some call)
 known-call (Some call) e = (call, refl)
 known-call None e = not-both false refl e
-
--- a call that doesn't wait is busy where a try saw the lock taken
-pub busy-next : {E Call : Type 0} (o : Obj Call) (k : Plan) (v u : View E) (words : CallWords) (call : Call) (word : ℕ) → IsNextCall k v.hand words → o.call_of words ≡ Some call → mode_of words ≡ Try → v.hand.held ≡ No → v.hand.last ≤ v.steps
-    → MissesOwner v word u → ((reads : Bool) → owned reads word) → IsBusy o owned k u.hand (next_entry u.hand) word
-busy-next o k v u words call word next is tries out latest missed shut = let now = ap (λ (x : View _). x.hand) missed.1 in record {
-  words = words;
-  call = call;
-  planned = subst (λ (h : Hand). slice_get (row k (next_entry h).task) (next_entry h).call ≡ Some words) (sym now) next.1;
-  is = is;
-  tries = tries;
-  free = ap (λ (h : Hand). h.held) now ∙ out;
-  saw = record { word = word; step = v.steps + 1 };
-  seen = ap (λ (h : Hand). h.saw) now;
-  word_is = refl;
-  since = let last = ap (λ (h : Hand). h.last) now in omega (arith, last, latest);
-  shut = shut (o.reads call);
-}
 
 -- one that waits for signals is interrupted where a try saw the lock taken, and its pass then consumed a signal
 pub interrupted-next : {E Call : Type 0} (o : Obj Call) (k : Plan) (v u w : View E) (words : CallWords) (call : Call) (word : ℕ) (why : Interrupted) → IsNextCall k v.hand words → o.call_of words ≡ Some call → mode_of words ≡ Int → v.hand.held ≡ No → v.hand.consumed ≡ 0 → v.hand.last ≤ v.steps

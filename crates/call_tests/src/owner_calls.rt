@@ -93,33 +93,6 @@ pub fn perform<O: ValueObject + Drop>(site: &OwnerSite<O>, pass: &mut OwnerPass<
     Some(reply)
 }
 
-/// Tries once for the lock on behalf of a call that doesn't wait, and says whether it got it. Where
-/// it missed, the call is recorded as busy, with the word that the try saw.
-pub fn try_next<O: Object>(site: &OwnerSite<O>, pass: &mut OwnerPass<O>) -> Option<bool>
-    requires own { SitsAt site.now pass.old }
-    requires numbered { IsSome (task_in pass.old) }
-    requires out { held_in pass.old ≡ No }
-    requires owes { OwesNothing pass.old }
-    ensures own { SitsAt site.now pass.new }
-    ensures task { task_in pass.new ≡ task_in pass.old }
-    ensures taken { result ≡ Some true → held_in pass.new ≡ Alone }
-    ensures missed { result ≢ Some true → held_in pass.new ≡ No }
-    ensures owes { OwesNothing pass.new }
-    ensures spin { SameSpin pass.old pass.new }
-{
-    let next = next_call(site, pass)?;
-    if next.words.mode() != Mode::Try || O::call_of(next.words).is_none() {
-        return None;
-    }
-    match site.trylock_once(pass) {
-        Ok(()) => Some(true),
-        Err(word) => {
-            site.note(pass, next.call, Reply::Busy(word));
-            Some(false)
-        }
-    }
-}
-
 /// Sends the signal that the next call of the pass's task is, records it, and answers its target.
 /// `None` where that call is no signal to a task.
 pub fn send<O: Object>(site: &OwnerSite<O>, pass: &mut OwnerPass<O>) -> Option<u32>

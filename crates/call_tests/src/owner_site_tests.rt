@@ -1,19 +1,17 @@
 //! Sites with an owner word over address spaces.
 ghost use Rattle.std.specs.Prelude.{◌≡◌, ◌≢◌, ◌<◌, length};
 ghost use Rattle.lock_core.specs.declared.view.Held.TheVariants.{No};
-ghost use Rattle.mutex_word.specs.OwnerHandles.{plan_of, hand_in, held_in, SitsAt};
+ghost use Rattle.mutex_word.specs.OwnerHandles.{plan_of, held_in, SitsAt};
 ghost use Rattle.call_tests.specs.OwnerStanding.{SaysSame};
 
-use crate::owner_calls::{interrupt, perform, send, take, try_next};
+use crate::owner_calls::take;
 use crate::owner_rounds::four_at_once;
-use lock_core::{Held, Interrupted, SiteLock};
+use lock_core::SiteLock;
 use mutex_word::{OwnerPass, OwnerSite};
-use plan_runs::plans::{
-    fault_page, int_fault_page, map_page, plan_with, signal_task, try_map_page,
-};
+use plan_runs::plans::{int_fault_page, map_page, plan_with, signal_task};
 use std::test::Fail;
 use vma_map::Areas;
-use word_bits::{Entry, Object, Reply, ValueObject};
+use word_bits::{Entry, Object, ValueObject};
 
 /// Many rounds for each of four threads.
 const ROUNDS: u32 = 10_000;
@@ -66,19 +64,6 @@ fn replay(
     true
 }
 
-/// The word of a call's record. `None` where the plan has no such call.
-fn record_word(site: &OwnerSite<Areas>, pass: &mut OwnerPass<Areas>, entry: Entry) -> Option<u64>
-    requires own { SitsAt site.now pass.old }
-    ensures own { SitsAt site.now pass.new }
-    ensures face { SaysSame pass.old pass.new }
-    ensures hand { hand_in pass.new ≡ hand_in pass.old }
-{
-    if entry.task >= site.tasks() || entry.call >= site.calls(entry.task) {
-        return None;
-    }
-    Some(site.rec_word(pass, entry.task, entry.call))
-}
-
 /// Whether each call of the task has the record of this word.
 fn records_are(site: &OwnerSite<Areas>, pass: &mut OwnerPass<Areas>, task: u32, want: u64) -> bool
     requires own { SitsAt site.now pass.old }
@@ -91,126 +76,6 @@ fn records_are(site: &OwnerSite<Areas>, pass: &mut OwnerPass<Areas>, task: u32, 
         }
     }
     true
-}
-
-#[test]
-fn a_second_task_takes_the_lock_once_the_first_lets_it_go(rt: HostRuntime) -> Result<(), Fail> {
-    let plan = plan_with::<Areas>(
-        rt.alloc(),
-        3,
-        [(0, 1, map_page(0)), (2, 1, fault_page(0))].as_slice(),
-    )?;
-    let (site, mut one) = OwnerSite::<Areas>::open(rt.alloc(), plan)?;
-    let mut two = site.split(&mut one);
-    site.begin(&rt, &mut one, 0);
-    site.begin(&rt, &mut two, 2);
-    assert!(rt; site.trylock_once(&mut one).is_ok());
-    assert!(rt; site.trylock_once(&mut two) == Err(8));
-    assert!(rt; perform(&site, &mut one) == Some(Reply::Num(0)));
-    site.unlock_once(&mut one);
-    assert!(rt; site.trylock_once(&mut two).is_ok());
-    assert!(rt; (site.word(&mut two, 0), site.log_len(&mut two)) == (1, 1));
-    assert!(rt; perform(&site, &mut two) == Some(Reply::Good));
-    Ok(())
-}
-
-#[test]
-fn a_task_that_holds_does_its_calls_in_turn(rt: HostRuntime) -> Result<(), Fail> {
-    let plan = plan_with::<Areas>(
-        rt.alloc(),
-        1,
-        [(0, 1, map_page(2)), (0, 1, fault_page(2))].as_slice(),
-    )?;
-    let (site, mut pass) = OwnerSite::<Areas>::open(rt.alloc(), plan)?;
-    site.begin(&rt, &mut pass, 0);
-    assert!(rt; site.trylock_once(&mut pass).is_ok());
-    assert!(rt; perform(&site, &mut pass) == Some(Reply::Num(2)));
-    assert!(rt; perform(&site, &mut pass) == Some(Reply::Good));
-    assert!(rt; perform(&site, &mut pass).is_none());
-    site.unlock_once(&mut pass);
-    assert!(rt; (site.done(&pass), site.front(&pass), site.held(&pass)) == (2, 1, Held::No));
-    site.recall_holders(&mut pass);
-    site.grown(&mut pass);
-    Ok(())
-}
-
-#[test]
-fn a_pass_gathers_another(rt: HostRuntime) -> Result<(), Fail> {
-    let plan = plan_with::<Areas>(rt.alloc(), 1, [].as_slice())?;
-    let (site, mut one) = OwnerSite::<Areas>::open(rt.alloc(), plan)?;
-    let two = site.split(&mut one);
-    site.gather(&mut one, two);
-    assert!(rt; (site.task(&one), site.held(&one)) == (None, Held::No));
-    Ok(())
-}
-
-// A record's word has the place in the log, the kind of the reply times 262,144 (busy 6,
-// interrupted 7, sent 8), and its value times 4,194,304.
-#[test]
-fn a_call_that_does_not_wait_is_busy(rt: HostRuntime) -> Result<(), Fail> {
-    let plan = plan_with::<Areas>(
-        rt.alloc(),
-        2,
-        [(0, 1, map_page(0)), (1, 2, try_map_page(1))].as_slice(),
-    )?;
-    let (site, mut one) = OwnerSite::<Areas>::open(rt.alloc(), plan)?;
-    let mut two = site.split(&mut one);
-    site.begin(&rt, &mut one, 0);
-    site.begin(&rt, &mut two, 1);
-    assert!(rt; site.trylock_once(&mut one).is_ok());
-    assert!(rt; try_next(&site, &mut two) == Some(false));
-    let entry = Entry { task: 1, call: 0 };
-    assert!(rt; record_word(&site, &mut two, entry) == Some(6 * 262_144 + 8 * 4_194_304));
-    site.unlock_once(&mut one);
-    assert!(rt; try_next(&site, &mut two) == Some(true));
-    assert!(rt; (site.done(&two), site.held(&two)) == (1, Held::Alone));
-    Ok(())
-}
-
-#[test]
-fn a_signal_interrupts_a_call_that_waits(rt: HostRuntime) -> Result<(), Fail> {
-    let plan = plan_with::<Areas>(
-        rt.alloc(),
-        3,
-        [(0, 1, signal_task(1)), (1, 2, int_fault_page(0))].as_slice(),
-    )?;
-    let (site, mut one) = OwnerSite::<Areas>::open(rt.alloc(), plan)?;
-    let mut two = site.split(&mut one);
-    let mut holder = site.split(&mut one);
-    site.begin(&rt, &mut one, 0);
-    site.begin(&rt, &mut two, 1);
-    site.begin(&rt, &mut holder, 2);
-    assert!(rt; site.trylock_once(&mut holder).is_ok());
-    assert!(rt; interrupt(&site, &mut two).is_none());
-    assert!(rt; send(&site, &mut one) == Some(1));
-    assert!(rt; interrupt(&site, &mut two) == Some(Interrupted { sent: 1, taken: 0 }));
-    assert!(rt; interrupt(&site, &mut two).is_none());
-    let (sent, interrupted) = (Entry { task: 0, call: 0 }, Entry { task: 1, call: 0 });
-    assert!(rt; record_word(&site, &mut two, sent) == Some(8 * 262_144));
-    assert!(rt; record_word(&site, &mut two, interrupted) == Some(7 * 262_144));
-    Ok(())
-}
-
-#[test]
-fn a_second_signal_interrupts_the_next_call(rt: HostRuntime) -> Result<(), Fail> {
-    let plan = plan_with::<Areas>(
-        rt.alloc(),
-        3,
-        [(0, 2, signal_task(1)), (1, 2, int_fault_page(0))].as_slice(),
-    )?;
-    let (site, mut one) = OwnerSite::<Areas>::open(rt.alloc(), plan)?;
-    let mut two = site.split(&mut one);
-    let mut holder = site.split(&mut one);
-    site.begin(&rt, &mut one, 0);
-    site.begin(&rt, &mut two, 1);
-    site.begin(&rt, &mut holder, 2);
-    assert!(rt; site.trylock_once(&mut holder).is_ok());
-    assert!(rt; send(&site, &mut one) == Some(1));
-    assert!(rt; interrupt(&site, &mut two).is_some());
-    assert!(rt; send(&site, &mut one) == Some(1));
-    assert!(rt; interrupt(&site, &mut two) == Some(Interrupted { sent: 2, taken: 1 }));
-    assert!(rt; send(&site, &mut one).is_none());
-    Ok(())
 }
 
 #[test]
@@ -240,6 +105,7 @@ fn the_log_of_four_threads_has_each_commit_once(rt: HostRuntime) -> Result<(), F
     Ok(())
 }
 
+// A record's word has the kind of the reply times 262,144: interrupted is 7, sent 8.
 #[test]
 fn each_signal_of_two_threads_interrupts_a_call_of_another(rt: HostRuntime) -> Result<(), Fail> {
     let plan = plan_with::<Areas>(

@@ -2,18 +2,11 @@
 use Rattle.std.proofs.Common.{◌≡◌, ℕ, suc, ◌+◌, ◌<◌, inl, inr, List, [], ◌∷◌, ◌++◌, length, take, slice_get, Option, Some, refl, sym, ap, ◌∙◌, subst, arith, length-append}
 use Rattle.std.proofs.Common.{⊎_elim}
 use Rattle.std.specs.Option.{option_map_or}
-use Rattle.word_bits.specs.declared.call.CallWords.{CallWords}
-use Rattle.word_bits.specs.declared.entry.Entry.{Entry}
-use Rattle.word_bits.specs.declared.rec.Rec.{Rec}
-use Rattle.word_bits.specs.declared.reply.Reply.{Reply}
-use Rattle.word_bits.specs.declared.reply.Reply.TheVariants.{Good, Num, Refused, MapErr, AccErr, Busy, Intr, Sent}
 use Rattle.word_bits.specs.LockWords.{Unavailable}
 use Rattle.word_bits.specs.Objects.{Obj, IsObjectReply}
 use Rattle.word_bits.specs.Histories.{Plan, logs}
 use Rattle.word_bits.specs.Legal.{IsRecord, IsUnheldReply, seen_after}
 use Rattle.word_bits.proofs.States.{IsLawful, state_is_state}
-use Rattle.lock_core.specs.declared.view.Hand.{Hand}
-use Rattle.lock_core.specs.declared.view.Told.{Told}
 use Rattle.lock_core.specs.Records.{row, seen_by}
 use Rattle.lock_core.specs.Views.{Knows, next_entry}
 use Rattle.lock_core.proofs.RecordLaws.{seen_by-snoc}
@@ -23,6 +16,7 @@ use Rattle.lock_core.specs.Kinds.{Kind}
 use Rattle.lock_core.specs.Kinds as kinds
 use Rattle.guarded.specs.Performing.{Performs}
 use Rattle.guarded.specs.Gathering.{AreExact, HasDoneSoFar}
+use Rattle.guarded.specs.Types.{CallWords, Entry, Rec, Reply, Good, Num, Refused, MapErr, AccErr, Busy, Intr, Sent, Hand, Told}
 
 module _ {Call : Type 0} (o : Obj Call) (unavailable : Unavailable) where
   no-unheld : (w : CallWords) (reply : Reply) → IsObjectReply reply → {P : Type 0} → IsUnheldReply o unavailable w reply → P

@@ -4,15 +4,10 @@ use mathlib.Core.Logic.{dite}
 use native.Mathlib.Decide.{ℕ_discrete}
 use Rattle.std.proofs.lemmas.Grind.{common_steps}
 use Rattle.std.proofs.lemmas.List.{map-append}
-use Rattle.word_bits.specs.declared.entry.Entry.{Entry}
-use Rattle.word_bits.specs.declared.rec.Rec.{Rec}
 use Rattle.word_bits.specs.EntryWord.{entry_word}
 use Rattle.word_bits.specs.RecWord.{IsRec, rec_word}
 use Rattle.word_bits.specs.Snapshots.{Words}
 use Rattle.word_bits.specs.Histories.{Plan}
-use Rattle.lock_core.specs.declared.view.Hand.{Hand}
-use Rattle.lock_core.specs.declared.view.Held.TheVariants.{Alone}
-use Rattle.lock_core.specs.declared.view.Moment.{Moment}
 use Rattle.lock_core.specs.Layout.{record_place}
 use Rattle.lock_core.specs.Records.{row}
 use Rattle.lock_core.specs.Views.{Knows}
@@ -20,6 +15,7 @@ use Rattle.lock_core.specs.Pasts.{FoundAt, GoesOn}
 use Rattle.lock_core.specs.Shown.{Shown, IsLatestStep}
 use Rattle.lock_core.proofs.RowLaws.{none-some, same-some, some-inside, get-there, get-longer, get-last, get-either}
 use Rattle.guarded.specs.ObjectCopying.{AreTaskWords, AreRecWords, FoundBetween, HeldAlone, joined}
+use Rattle.guarded.specs.Types.{Entry, Rec, Hand, Alone, Moment}
 
 module _ {X : Type 0} where
   take-some : (xs : List X) (i : ℕ) (x : X) → slice_get xs i ≡ Some x → take (suc i) xs ≡ take i xs ++ x ∷ []

@@ -1,20 +1,16 @@
 -- What populate counts.
 use Rattle.std.proofs.Common.{◌≡◌, ◌≢◌, ℕ, zero, suc, ◌+◌, ◌*◌, ◌%◌, ◌<◌, ◌≤◌, ◌==◌, ◌||◌, nat_le, nat_lt, Bool, true, false, ◌-◌, min, max, List, [], ◌∷◌, ◌++◌, ◌⊎◌, ⊎_elim, length, drop, take, get_or, None, Some, refl, sym, ap, ◌∙◌, arith, if◌then◌else◌}
 use Rattle.std.proofs.lemmas.Bool.Decides.{nat_tests}
-use Rattle.word_bits.specs.declared.reply.Errno.{Errno}
-use Rattle.word_bits.specs.declared.reply.Errno.TheVariants.{NoMem, Inval}
-use Rattle.word_bits.specs.declared.reply.Reply.{Reply}
-use Rattle.word_bits.specs.declared.reply.Reply.TheVariants.{Num, Refused}
 use Rattle.word_bits.specs.PageMaps.{PageMap, runs}
 use Rattle.lock_core.specs.Records.{bit}
 use Rattle.vma_map.specs.Spaces.{changed, with_range, populated, readable}
 use Rattle.std.specs.List.{AllByRecursion}
 use Rattle.std.proofs.lemmas.List.{take_more}
-use Rattle.word_bits.specs.declared.area.Area.{Area}
 use Rattle.vma_map.specs.Runs.{page_map, AreRuns}
 use Rattle.vma_map.specs.Laws.Area.{page_map-in, page_map-behind, page_map-below, page_map-low, AreRuns-head, AreRuns-tail}
 use Rattle.vma_map.proofs.CountLemmas.{covered}
 use Rattle.guarded.specs.CallServing.{part, share, readable_from, is_readable}
+use Rattle.guarded.specs.Types.{Errno, NoMem, Inval, Reply, Num, Refused, Area}
 
 inside : (s : PageMap) (start end page prot : ℕ) → start ≤ page → page < end → changed s start end (Some prot) page ≡ Some prot
 inside s start end page prot a b = grind (arith, nat_tests)

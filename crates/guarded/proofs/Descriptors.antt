@@ -5,19 +5,14 @@ use Rattle.std.proofs.lemmas.Bool.{cases_lt, cases_eq, cond-true, cond-false, ne
 use Rattle.std.proofs.lemmas.Bool.Decides.{nat_tests}
 use Rattle.std.proofs.lemmas.List.{get_or_past}
 use Rattle.std.proofs.lemmas.List.FromFn.{get_or-map-range_with_len, length-map-range_with_len}
-use Rattle.word_bits.specs.declared.reply.Reply.{Reply}
-use Rattle.word_bits.specs.declared.reply.Reply.TheVariants.{Good, Num, Refused}
-use Rattle.word_bits.specs.declared.reply.Errno.TheVariants.{BadF, MFile}
-use Rattle.lock_core.specs.declared.view.Hand.{Hand}
 use Rattle.lock_core.specs.Shown.{Shown}
 use Rattle.lock_core.specs.Locking.{Looks, Has}
 use Rattle.lock_core.specs.Views.{wrote}
-use Rattle.fd_table.specs.declared.call.TableCall.{TableCall}
-use Rattle.fd_table.specs.declared.call.TableCall.TheVariants.{Open, Close, Dup, Dup2}
 use Rattle.fd_table.specs.Tables.{FdMap, IsFdMap, IsFull, IsLowestFree, lowest_free, meaning, opened, reopened, slot_word, stores, with_file, words_from}
 use Rattle.fd_table.specs.Laws.Table.{lowest_free-lowest}
 use Rattle.guarded.specs.Performing.{HasStored}
 use Rattle.guarded.specs.Slots.{DoesTo}
+use Rattle.guarded.specs.Types.{Reply, Good, Num, Refused, BadF, MFile, Hand, TableCall, Open, Close, Dup, Dup2}
 use Rattle.guarded.proofs.Passing.{beside-trans}
 use Rattle.guarded.proofs.Spliced.{rows-alike, set-here, set-off, set-long}
 

@@ -5,9 +5,9 @@ use Rattle.std.proofs.Math.Seq.{take-append_seam}
 use Rattle.word_bits.specs.LockWords.{Unavailable}
 use Rattle.word_bits.specs.Objects.{Obj}
 use Rattle.word_bits.specs.Histories.{Plan}
-use Rattle.lock_core.specs.declared.view.Hand.{Hand}
 use Rattle.lock_core.specs.Records.{row}
 use Rattle.guarded.specs.Gathering.{HasDone, HasDoneAll, IsGathered}
+use Rattle.guarded.specs.Types.{Hand}
 
 last_of : {X : Type 0} (others new : List X) (x : X) → new ++ x ∷ [] ≡ take (suc (length new)) others → (new ≡ take (length new) others) × (x ≡ get_or others (length new) x) × (length new < length others)
 last_of [] [] x e = cc

@@ -7,23 +7,19 @@ use Rattle.word_bits.specs.RecWord.{IsRec, rec_word}
 use Rattle.word_bits.specs.Snapshots.{Words}
 use Rattle.guarded.proofs.Once.{logged-once}
 use Rattle.std.proofs.lemmas.Grind.{common_steps}
-use Rattle.word_bits.specs.declared.call.CallWords.{CallWords}
-use Rattle.word_bits.specs.declared.entry.Entry.{Entry}
-use Rattle.word_bits.specs.declared.rec.Rec.{Rec}
 use Rattle.word_bits.specs.LockWords.{Unavailable}
 use Rattle.word_bits.specs.Objects.{Obj}
 use Rattle.word_bits.specs.Histories.{Plan, Records, logs}
 use Rattle.word_bits.specs.Legal.{IsLegal, IsRecord, IsUnheldReply, AreTaskRecords, AreRecords, seen_after, is_intr}
-use Rattle.lock_core.specs.declared.view.Hand.{Hand}
 use Rattle.lock_core.specs.Records.{row, bit, intrs, AreNext}
 use Rattle.lock_core.proofs.RowLaws.{none-some, same-some, some-inside, row-task}
 use Rattle.lock_core.proofs.Recording.{entry-fits}
 use Rattle.lock_core.specs.Plans.{IsSmall}
 use Rattle.guarded.specs.Gathering.{AreExact, IsGathered}
-use Rattle.lock_core.specs.declared.view.Moment.{Moment}
 use Rattle.lock_core.specs.Shown.{Shown}
 use Rattle.lock_core.specs.Chronicles.{Chronicles}
 use Rattle.guarded.specs.ObjectCopying.{Copies, AreRecWords, GatheredIsHistory, joined}
+use Rattle.guarded.specs.Types.{CallWords, Entry, Rec, Hand, Moment}
 
 module _ {Call : Type 0} (o : Obj Call) (unavailable : Unavailable) (k : Plan) (log : List Entry) where
   exact-record : (e : Entry) (seen : ℕ) (w : CallWords) (r : Rec) → IsRecord o unavailable k log r.k e w r → (IsUnheldReply o unavailable w r.reply → r.k ≡ seen) → IsRecord o unavailable k log seen e w r

@@ -1,9 +1,9 @@
 -- Words behind which all are 0.
 use Rattle.std.proofs.Common.{◌≡◌, ℕ, zero, suc, ◌+◌, ◌≤◌, List, [], ◌∷◌, ◌++◌, length, map, replicate, slice_index, refl, arith}
-use Rattle.word_bits.specs.declared.area.Area.{Area}
 use Rattle.word_bits.specs.AreaWord.{area_word}
 use Rattle.vma_map.specs.Runs.{words_of_areas}
 use Rattle.guarded.specs.CallServing.{AreZeroFrom}
+use Rattle.guarded.specs.Types.{Area}
 
 -- zeros
 pub zeros-index : (n i : ℕ) → slice_index (replicate n 0) i ≡ 0

@@ -1,6 +1,6 @@
 -- One call of a lock after another.
 use Rattle.std.proofs.Common.{◌≡◌, ◌∙◌, List, sym, ap, subst, arith}
-use Rattle.lock_core.specs.declared.view.Moment.{Moment}
+use Rattle.guarded.specs.Types.{Moment}
 use Rattle.lock_core.specs.Pasts.{GoesOn}
 use Rattle.lock_core.specs.Shown.{Shown, AllButHand}
 use Rattle.lock_core.specs.Locking.{Looks}

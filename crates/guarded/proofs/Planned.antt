@@ -1,7 +1,7 @@
 -- What the words of a planned call are: those of a signal to a task, or of a call of the object.
 use Rattle.std.proofs.Common.{◌≡◌, ℕ, ◌<◌, true, inl, inr, Some, None, sym, subst, ◌∙◌}
 use Rattle.std.specs.Prelude.{Option, is_some}
-use Rattle.word_bits.specs.declared.call.CallWords.{CallWords}
+use Rattle.guarded.specs.Types.{CallWords}
 use Rattle.word_bits.specs.declared.TheConstants.{MAX_TASKS}
 use Rattle.word_bits.specs.Calls.{signal_of}
 use Rattle.word_bits.specs.Objects.{Obj}

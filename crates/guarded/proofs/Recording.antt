@@ -2,26 +2,10 @@
 use Rattle.std.proofs.Common.{◌≡◌, ◌≢◌, ℕ, ◌+◌, ◌<◌, ◌≤◌, ⊎_elim, inl, inr, Bool, true, false, not, ◌&&◌, List, [], ◌∷◌, ◌++◌, length, take, slice_get, Option, Some, None, IsSome, IfOk, IfErr, Result, Ok, Err, refl, sym, ap, ◌∙◌, subst, arith, length-append, length-take, take-take, take_at, take_all}
 use Rattle.std.specs.Option.{option_map_or}
 use Rattle.std.proofs.lemmas.Bool.{false≢true}
-use Rattle.word_bits.specs.declared.call.CallWords.{CallWords}
-use Rattle.word_bits.specs.declared.call.Mode.{Mode}
-use Rattle.word_bits.specs.declared.call.Mode.TheVariants.{Try}
-use Rattle.word_bits.specs.declared.entry.Entry.{Entry}
-use Rattle.word_bits.specs.declared.rec.Rec.{Rec}
-use Rattle.word_bits.specs.declared.reply.Reply.{Reply}
-use Rattle.word_bits.specs.declared.reply.Reply.TheVariants.{Good, Num, Refused, MapErr, AccErr, Busy, Intr, Sent}
 use Rattle.word_bits.specs.Calls.{mode_of, signal_of}
 use Rattle.word_bits.specs.Objects.{Obj, IsObjectReply}
 use Rattle.word_bits.specs.Histories.{Plan, logs, changes, state_after}
 use Rattle.word_bits.specs.Legal.{IsRecord, IsUnheldReply, is_intr, seen_after}
-use Rattle.lock_core.specs.declared.how.How.{How}
-use Rattle.lock_core.specs.declared.how.How.TheVariants.{Fast, Spun, Slept}
-use Rattle.lock_core.specs.declared.view.Line.{Line}
-use Rattle.lock_core.specs.declared.tally.Tally.{Tally}
-use Rattle.lock_core.specs.declared.view.Hand.{Hand}
-use Rattle.lock_core.specs.declared.view.Held.{Held}
-use Rattle.lock_core.specs.declared.view.Held.TheVariants.{No}
-use Rattle.lock_core.specs.declared.view.Stage.{Stage}
-use Rattle.lock_core.specs.declared.view.Stage.TheVariants.{Logged}
 use Rattle.lock_core.specs.Records.{bit, is_sent, row}
 use Rattle.lock_core.specs.Tallies.{raised, stood_in_list}
 use Rattle.lock_core.specs.Views.{recorded, committed, noted, next_entry, OwesNoSignal, Unsent}
@@ -30,14 +14,13 @@ use Rattle.lock_core.proofs.RowLaws.{get-last}
 use Rattle.lock_core.proofs.RecordLaws.{object-logs, changes-is}
 use Rattle.lock_core.proofs.Replies.{settled-object}
 use Rattle.guarded.proofs.Passing.{beside-trans}
-use Rattle.lock_core.specs.declared.view.Line.{Line}
-use Rattle.lock_core.specs.declared.view.Moment.{Moment}
-use Rattle.lock_core.specs.declared.how.Interrupted.{Interrupted}
 use Rattle.lock_core.specs.Pasts.{FoundAtStep}
 use Rattle.lock_core.specs.Kinds.{Kind, shares, unavailable, wakes_shared}
 use Rattle.lock_core.specs.Shown.{Shown, NoCountFalls, AllButHand, LeavesHold, PastGoesOn, IsNextCall}
 use Rattle.lock_core.specs.Locking.{Begins, HasSince, Looks, Takes, Frees, Releases, Sees, SawPending, KeepsPlace, IsLetIn, Interrupts, Got, TalliesLock}
 use Rattle.guarded.specs.Performing.{Refuses, TalliesCall, TriesOnce, AddsRecord, Serves, Performs, takes_by}
+use Rattle.guarded.specs.Types.{CallWords, Mode, Try, Entry, Rec, Reply, Good, Num, Refused, MapErr, AccErr, Busy, Intr, Sent, How, Fast, Spun, Slept, Line, Tally, Hand, Held, No, Stage}
+use Rattle.guarded.specs.Types.{Logged, Moment, Interrupted}
 
 eq-le : (m n : ℕ) → m ≡ n → n ≤ m
 eq-le m n e = omega arith

@@ -1,12 +1,8 @@
 -- What the guarded words tell of the object.
 use Rattle.std.proofs.Common.{◌≡◌, ℕ, false, List, Some, length, sym, ap, ◌∙◌, subst, arith}
-use Rattle.word_bits.specs.declared.call.CallWords.{CallWords}
-use Rattle.word_bits.specs.declared.entry.Entry.{Entry}
-use Rattle.word_bits.specs.declared.reply.Reply.{Reply}
 use Rattle.word_bits.specs.Objects.{Obj, IsObjectReply}
 use Rattle.word_bits.specs.Histories.{Plan, state_after}
 use Rattle.word_bits.proofs.States.{IsLawful, state_is_state}
-use Rattle.lock_core.specs.declared.view.Hand.{Hand}
 use Rattle.lock_core.specs.Views.{committed, next_entry}
 use Rattle.lock_core.proofs.RecordLaws.{state-snoc}
 use Rattle.lock_core.specs.SitePasses.{IsChange}
@@ -14,6 +10,7 @@ use Rattle.lock_core.specs.Shown.{Shown, IsNextCall}
 use Rattle.lock_core.specs.Locking.{IsStored, HasSince}
 use Rattle.guarded.specs.declared.next.Next.{Next}
 use Rattle.guarded.specs.Performing.{IsNext, HasStored}
+use Rattle.guarded.specs.Types.{CallWords, Entry, Reply, Hand}
 use Rattle.guarded.proofs.Passing.{beside-trans}
 
 module _ {Call : Type 0} (o : Obj Call) (lawful : IsLawful o) (k : Plan) (h : Hand) (stored : IsStored o k h) where

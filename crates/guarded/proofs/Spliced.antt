@@ -2,7 +2,6 @@
 use Rattle.std.proofs.Common.{◌≡◌, ℕ, zero, suc, ◌+◌, ◌-◌, ◌/◌, ◌%◌, ◌^◌, ◌<◌, ◌≤◌, ◌⊎◌, inl, inr, List, [], ◌∷◌, ◌++◌, length, map, replicate, take, drop, get_or, slice_index, slice_set, refl, sym, ap, ◌∙◌, subst, arith}
 use Rattle.std.proofs.lemmas.Bool.{cases_lt}
 use Rattle.std.proofs.lemmas.List.{take_at, length-map, map-append, take-map, drop-map, length-append, length-take, length-drop, get_or-drop, get_or-take, get_or-append_right, get_or_append_left, get_or-map}
-use Rattle.word_bits.specs.declared.area.Area.{Area}
 use Rattle.word_bits.specs.AreaWord.{IsArea, area_word}
 use Rattle.vma_map.specs.Runs.{AreRuns, IsSpace, words_of_areas, spliced}
 use Rattle.vma_map.specs.Laws.Area.{AreRuns-head, AreRuns-tail}
@@ -11,6 +10,7 @@ use Rattle.vma_map.proofs.RangeLemmas.{no_area, AreRuns-at}
 use Rattle.vma_map.proofs.WordLemmas.{AreRuns-take}
 use Rattle.guarded.specs.CallServing.{AreZeroFrom}
 use Rattle.guarded.specs.Splicing.{area_of, areas_in, HaveAreas, MakeRoom, IsWritten}
+use Rattle.guarded.specs.Types.{Area}
 use Rattle.guarded.proofs.Padding.{zeros-index, space-zero}
 
 -- the area of an area's word

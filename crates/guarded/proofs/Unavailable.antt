@@ -1,16 +1,10 @@
 -- Words that are unavailable in one sense and so in another: what may be noted, and what is recorded, in the one sense is so in the other.
 use Rattle.std.proofs.Common.{ℕ, ◌+◌, List, [], ◌∷◌, Bool, inl, inr}
-use Rattle.word_bits.specs.declared.call.CallWords.{CallWords}
-use Rattle.word_bits.specs.declared.entry.Entry.{Entry}
-use Rattle.word_bits.specs.declared.rec.Rec.{Rec}
-use Rattle.word_bits.specs.declared.reply.Reply.{Reply}
-use Rattle.word_bits.specs.declared.reply.Reply.TheVariants.{Busy, Intr, Sent, Good, Num, Refused, MapErr, AccErr}
+use Rattle.guarded.specs.Types.{CallWords, Entry, Rec, Reply, Busy, Intr, Sent, Good, Num, Refused, MapErr, AccErr, Hand, Told}
 use Rattle.word_bits.specs.Histories.{Plan, logs}
 use Rattle.word_bits.specs.Legal.{IsRecord, IsUnheldReply, seen_after}
 use Rattle.word_bits.specs.LockWords.{Unavailable}
 use Rattle.word_bits.specs.Objects.{Obj}
-use Rattle.lock_core.specs.declared.view.Hand.{Hand}
-use Rattle.lock_core.specs.declared.view.Told.{Told}
 use Rattle.lock_core.specs.Chronicles.{Chronicles}
 use Rattle.lock_core.specs.SitePasses.{MayNote}
 use Rattle.lock_core.specs.Records.{AreNext, row}

@@ -1,13 +1,12 @@
 -- What a pass knows of the guarded words after it looked at them and wrote.
 use Rattle.std.proofs.Common.{◌≡◌, ℕ, ◌+◌, ◌-◌, ◌<◌, ◌≤◌, ◌⊎◌, inl, inr, true, List, length, slice_index, slice_set, refl, sym, ap, ◌∙◌, arith}
 use Rattle.std.proofs.lemmas.Bool.{cases_lt, cases_eq}
-use Rattle.lock_core.specs.declared.view.Hand.{Hand}
-use Rattle.lock_core.specs.declared.view.Held.TheVariants.{Alone}
 use Rattle.lock_core.specs.Shown.{Shown, PastGoesOn}
 use Rattle.lock_core.specs.Locking.{Looks, Has}
 use Rattle.lock_core.specs.Views.{wrote}
 use Rattle.guarded.specs.CallServing.{AreZeroFrom}
 use Rattle.guarded.specs.Splicing.{ChangesWords, IsCleared, IsWritten, MakeRoom, MovesDown}
+use Rattle.guarded.specs.Types.{Hand, Alone}
 use Rattle.guarded.proofs.Spliced.{set-here, set-off}
 
 pub looked : (v u : Shown) → PastGoesOn v u → Looks v u → ChangesWords v u

@@ -1,3 +1,4 @@
+pub mod Types
 pub mod States
 pub mod CallServing
 pub mod GuardedHandles

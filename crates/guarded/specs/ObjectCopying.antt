@@ -1,7 +1,5 @@
 -- What `snapshot` copies.
 use Rattle.std.specs.Prelude.{◌≡◌, ◌≢◌, ℕ, ◌+◌, ◌<◌, List, [], ◌∷◌, ◌++◌, length, map, slice_get, false, Option, Some}
-use Rattle.word_bits.specs.declared.entry.Entry.{Entry}
-use Rattle.word_bits.specs.declared.rec.Rec.{Rec}
 use Rattle.word_bits.specs.EntryWord.{entry_word}
 use Rattle.word_bits.specs.RecWord.{IsRec, rec_word}
 use Rattle.word_bits.specs.LockWords.{Unavailable}
@@ -9,10 +7,6 @@ use Rattle.word_bits.specs.Objects.{Obj}
 use Rattle.word_bits.specs.Snapshots.{Words}
 use Rattle.word_bits.specs.Histories.{Plan, Records, state_after}
 use Rattle.word_bits.specs.Legal.{IsLegal, Tells}
-use Rattle.lock_core.specs.declared.view.Hand.{Hand}
-use Rattle.lock_core.specs.declared.view.Held.TheVariants.{Alone}
-use Rattle.lock_core.specs.declared.view.Moment.{Moment}
-use Rattle.lock_core.specs.declared.view.Told.{Told}
 use Rattle.lock_core.specs.Layout.{record_place}
 use Rattle.lock_core.specs.Records.{row}
 use Rattle.lock_core.specs.Views.{Knows}
@@ -21,6 +15,7 @@ use Rattle.lock_core.specs.Chronicles.{Chronicles}
 use Rattle.lock_core.specs.Shown.{Shown}
 use Rattle.lock_core.specs.Locking.{Begins}
 use Rattle.guarded.specs.Gathering.{IsGathered}
+use Rattle.guarded.specs.Types.{Entry, Rec, Hand, Alone, Moment, Told}
 
 abbrev pub joined : List (List ℕ) → List ℕ
 joined [] = []

@@ -1,19 +1,9 @@
 -- What `perform` does.
 use Rattle.std.specs.Prelude.{◌≡◌, ◌≢◌, ℕ, ◌+◌, ◌<◌, ◌≤◌, ◌&&◌, not, Bool, true, List, ◌∷◌, length, take, Some, None, IsSome}
-use Rattle.word_bits.specs.declared.call.CallWords.{CallWords}
-use Rattle.word_bits.specs.declared.call.Mode.{Mode}
-use Rattle.word_bits.specs.declared.call.Mode.TheVariants.{Int, Try}
-use Rattle.word_bits.specs.declared.entry.Entry.{Entry}
-use Rattle.word_bits.specs.declared.rec.Rec.{Rec}
-use Rattle.word_bits.specs.declared.reply.Reply.{Reply}
-use Rattle.word_bits.specs.declared.reply.Reply.TheVariants.{Good, Num, Refused, MapErr, AccErr, Busy, Intr, Sent}
 use Rattle.word_bits.specs.Calls.{mode_of, signal_of}
 use Rattle.word_bits.specs.Objects.{Obj, IsObjectReply}
 use Rattle.word_bits.specs.Histories.{Plan, logs, changes}
 use Rattle.word_bits.specs.Legal.{IsRecord, is_intr, seen_after}
-use Rattle.lock_core.specs.declared.how.Interrupted.{Interrupted}
-use Rattle.lock_core.specs.declared.view.Held.TheVariants.{No}
-use Rattle.lock_core.specs.declared.view.Hand.{Hand}
 use Rattle.lock_core.specs.Views.{committed, next_entry}
 use Rattle.lock_core.specs.Records.{bit}
 use Rattle.lock_core.specs.Tallies.{raised}
@@ -22,6 +12,7 @@ use Rattle.lock_core.specs.Kinds.{Kind, unavailable}
 use Rattle.lock_core.specs.Shown.{Shown, NoCountFalls, IsNextCall}
 use Rattle.lock_core.specs.Locking.{Has, HasSince, Begins, Sees, SawPending, Misses, Interrupts, KeepsPlace}
 use Rattle.guarded.specs.States.{state_in}
+use Rattle.guarded.specs.Types.{CallWords, Mode, Int, Try, Entry, Rec, Reply, Good, Num, Refused, MapErr, AccErr, Busy, Intr, Sent, Interrupted, No, Hand}
 
 -- it is the next call of the pass's task
 pub record IsNext {Call : Type 0} (o : Obj Call) (k : Plan) (h : Hand) (n : Next Call) : Type 0 where

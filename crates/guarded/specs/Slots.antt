@@ -1,10 +1,9 @@
 -- A table of descriptors in its words, and what a call does to them.
 use Rattle.std.specs.Prelude.{◌≡◌, ℕ, List}
-use Rattle.word_bits.specs.declared.reply.Reply.{Reply}
 use Rattle.lock_core.specs.Shown.{Shown}
-use Rattle.fd_table.specs.declared.call.TableCall.{TableCall}
 use Rattle.fd_table.specs.Tables.{FdMap, IsFdMap, meaning, stores}
 use Rattle.guarded.specs.Performing.{HasStored}
+use Rattle.guarded.specs.Types.{Reply, TableCall}
 
 -- the words store a table
 abbrev pub AreTableWords : List ℕ → Type 0

@@ -1,9 +1,9 @@
 -- The areas of a space in its words, and what is left of the words where pieces come in.
 use Rattle.std.specs.Prelude.{◌≡◌, ℕ, ◌+◌, ◌-◌, ◌/◌, ◌%◌, ◌^◌, ◌<◌, ◌≤◌, List, length, map, take, drop, slice_index}
-use Rattle.word_bits.specs.declared.area.Area.{Area}
 use Rattle.lock_core.specs.Shown.{Shown, PastGoesOn}
 use Rattle.vma_map.specs.Runs.{IsSpace, words_of_areas}
 use Rattle.guarded.specs.Performing.{HasStored}
+use Rattle.guarded.specs.Types.{Area}
 
 -- the area that has this word
 abbrev pub area_of : ℕ → Area

@@ -1,11 +1,8 @@
 -- The state that a holder knows, and what calls make of it.
 use Rattle.std.specs.Prelude.{◌≡◌, ◌≢◌, ℕ, List}
-use Rattle.word_bits.specs.declared.reply.Errno.{Errno}
-use Rattle.word_bits.specs.declared.reply.Reply.{Reply}
-use Rattle.word_bits.specs.declared.reply.Reply.TheVariants.{Refused}
+use Rattle.guarded.specs.Types.{Errno, Reply, Refused, Hand}
 use Rattle.word_bits.specs.Objects.{Obj}
 use Rattle.word_bits.specs.Histories.{Plan, state_after}
-use Rattle.lock_core.specs.declared.view.Hand.{Hand}
 
 module _ {Call : Type 0} (o : Obj Call) (k : Plan) (h : Hand) where
   -- the state after the log

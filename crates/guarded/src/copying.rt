@@ -1,7 +1,6 @@
 //! Copies of what an object's table has, and what a copy is that was made when all calls were done.
 ghost use Rattle.std.specs.Prelude.{◌≡◌, ◌≢◌, ◌+◌, ◌<◌, ◌≤◌, [], length, map, None, Some, IsSome};
 ghost use Rattle.word_bits.specs.EntryWord.{entry_word};
-ghost use Rattle.lock_core.specs.declared.view.Held.TheVariants.{No};
 ghost use Rattle.lock_core.specs.Pasts.{GoesOn};
 ghost use Rattle.lock_core.specs.Plans.{calls_in};
 ghost use Rattle.lock_core.specs.Records.{row};
@@ -11,6 +10,7 @@ ghost use Rattle.lock_core.specs.Locking.{Looks, Keeps};
 ghost use Rattle.guarded.specs.GuardedHandles.{lock_of};
 ghost use Rattle.guarded.specs.ObjectCopying.{Copies, GatheredIsHistory, KnowsChronicle, AddsTaskWords, AddsRecWords};
 ghost use Rattle.guarded.specs.Gathering.{HasDoneAll};
+ghost use Rattle.guarded.specs.Types.{No};
 
 use crate::guarded::Guarded;
 use crate::served::Served;
@@ -151,6 +151,7 @@ impl<L: SleepLock<O>, O: Served + Drop> Guarded<L, O> {
         requires sent { (L.view pass.old).hand.sent ≡ None }
         requires consumed { (L.view pass.old).hand.consumed ≡ 0 }
         ensures on { StepsOn L.sits L.view (lock_of self.now) pass.old pass.new }
+        ensures queue { GoesOn (L.spun pass.old) (L.spun pass.new) }
         ensures numbered { (L.view pass.new).hand.task ≡ Some task }
         ensures out { (L.view pass.new).hand.held ≡ No }
         ensures sent { (L.view pass.new).hand.sent ≡ None }

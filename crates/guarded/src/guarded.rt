@@ -1,6 +1,6 @@
 //! An object under its lock.
 ghost use Rattle.std.specs.Prelude.{◌≡◌, ◌<◌, [], ◌∷◌, length, None, Some, IsSome, IfOk};
-ghost use Rattle.lock_core.specs.declared.view.Held.TheVariants.{No};
+ghost use Rattle.guarded.specs.Types.{No};
 ghost use Rattle.lock_core.specs.Records.{row, IsPlan};
 ghost use Rattle.lock_core.specs.Views.{gave_up, gathered};
 ghost use Rattle.lock_core.specs.SitePasses.{Numbered};
@@ -46,6 +46,7 @@ impl<L: SleepLock<O>, O: Served + Drop> Guarded<L, O> {
         ensures new { IfOk result (λ _. IsNew O.object O.WORDS plan (L.opened plan)) }
         ensures view { IfOk result (λ t.
             L.view t.1 ≡ shown_new (Some plan) [] (L.opened plan ∷ [])) }
+        ensures unspun { IfOk result (λ t. L.spun t.1 ≡ L.opened_queue plan) }
     {
         let (lock, pass) = L::open(alloc, plan)?;
         let guarded = Guarded {
@@ -60,9 +61,11 @@ impl<L: SleepLock<O>, O: Served + Drop> Guarded<L, O> {
     pub fn split(&self, pass: &mut L::Pass) -> L::Pass
         requires own { L.sits (lock_of self.now) pass.old }
         ensures on { StepsOn L.sits L.view (lock_of self.now) pass.old pass.new }
+        ensures queue { GoesOn (L.spun pass.old) (L.spun pass.new) }
         ensures its_own { L.sits (lock_of self.now) result }
         ensures kept { Looks (L.view pass.old) (L.view pass.new) }
         ensures given { L.view result ≡ shown_split (L.view pass.old) }
+        ensures its_queue { L.spun result ≡ L.spun pass.old }
     {
         self.lock.split(pass)
     }

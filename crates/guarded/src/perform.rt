@@ -1,8 +1,7 @@
 //! Calls on an object, under its lock.
 ghost use Rattle.std.specs.Prelude.{◌≡◌, ◌≢◌, ◌<◌, true, false, length, None, Some, IsSome, IfOk, IfErr};
-ghost use Rattle.word_bits.specs.declared.call.Mode.TheVariants.{Int, Try};
 ghost use Rattle.word_bits.specs.Calls.{signal_of};
-ghost use Rattle.lock_core.specs.declared.view.Held.TheVariants.{No, Alone};
+ghost use Rattle.lock_core.specs.Pasts.{GoesOn};
 ghost use Rattle.lock_core.specs.Records.{row};
 ghost use Rattle.lock_core.specs.Views.{OwesNoSignal, next_entry};
 ghost use Rattle.lock_core.specs.Kinds.{shares, unavailable};
@@ -12,6 +11,7 @@ ghost use Rattle.guarded.specs.GuardedHandles.{lock_of};
 ghost use Rattle.guarded.specs.Performing.{IsNext, SendsNext, Refuses, TalliesCall, TriesOnce, Serves, Performs, Changes, no_word};
 ghost use Rattle.guarded.specs.Gathering.{DoesOneMore};
 ghost use Rattle.guarded.specs.States.{WasDone, reply_in};
+ghost use Rattle.guarded.specs.Types.{Int, Try, No, Alone};
 
 use crate::guarded::Guarded;
 use crate::next::Next;
@@ -48,6 +48,7 @@ impl<L: SleepLock<O>, O: Served + Drop> Guarded<L, O> {
         requires sent { (L.view pass.old).hand.sent ≡ None }
         requires consumed { (L.view pass.old).hand.consumed ≡ 0 }
         ensures on { StepsOn L.sits L.view (lock_of self.now) pass.old pass.new }
+        ensures queue { GoesOn (L.spun pass.old) (L.spun pass.new) }
         ensures performs { Performs O.object L.kind L.word_at (L.calls_on (lock_of self.now))
             result (L.view pass.old) (L.view pass.new) }
         ensures one_more { DoesOneMore O.object (unavailable L.kind) (L.calls_on (lock_of self.now))
@@ -83,6 +84,7 @@ impl<L: SleepLock<O>, O: Served + Drop> Guarded<L, O> {
         requires consumed { (L.view pass.old).hand.consumed ≡ 0 }
         requires there { target < MAX_TASKS }
         ensures on { StepsOn L.sits L.view (lock_of self.now) pass.old pass.new }
+        ensures queue { GoesOn (L.spun pass.old) (L.spun pass.new) }
         ensures performs { Performs O.object L.kind L.word_at (L.calls_on (lock_of self.now))
             result (L.view pass.old) (L.view pass.new) }
     {
@@ -109,6 +111,7 @@ impl<L: SleepLock<O>, O: Served + Drop> Guarded<L, O> {
         requires consumed { (L.view pass.old).hand.consumed ≡ 0 }
         requires no_signal { signal_of next.words ≡ None }
         ensures on { StepsOn L.sits L.view (lock_of self.now) pass.old pass.new }
+        ensures queue { GoesOn (L.spun pass.old) (L.spun pass.new) }
         ensures performs { Performs O.object L.kind L.word_at (L.calls_on (lock_of self.now))
             result (L.view pass.old) (L.view pass.new) }
     {
@@ -142,6 +145,7 @@ impl<L: SleepLock<O>, O: Served + Drop> Guarded<L, O> {
         requires numbered { IsSome (L.view pass.old).hand.task }
         requires out { (L.view pass.old).hand.held ≡ No }
         ensures on { StepsOn L.sits L.view (lock_of self.now) pass.old pass.new }
+        ensures queue { GoesOn (L.spun pass.old) (L.spun pass.new) }
         ensures took { IfOk result (λ _. Takes O.object (L.calls_on (lock_of self.now))
             (held_by L.kind reads) (L.view pass.old) (L.view pass.new)) }
         ensures counted { IfOk result (λ _.
@@ -177,6 +181,7 @@ impl<L: SleepLock<O>, O: Served + Drop> Guarded<L, O> {
         requires numbered { IsSome (L.view pass.old).hand.task }
         requires out { (L.view pass.old).hand.held ≡ No }
         ensures on { StepsOn L.sits L.view (lock_of self.now) pass.old pass.new }
+        ensures queue { GoesOn (L.spun pass.old) (L.spun pass.new) }
         ensures took { Takes O.object (L.calls_on (lock_of self.now))
             (held_by L.kind reads) (L.view pass.old) (L.view pass.new) }
         ensures counted { TalliesCall false (L.view pass.old) (L.view pass.new) }
@@ -202,6 +207,7 @@ impl<L: SleepLock<O>, O: Served + Drop> Guarded<L, O> {
         requires numbered { IsSome (L.view pass.old).hand.task }
         requires out { (L.view pass.old).hand.held ≡ No }
         ensures on { StepsOn L.sits L.view (lock_of self.now) pass.old pass.new }
+        ensures queue { GoesOn (L.spun pass.old) (L.spun pass.new) }
         ensures took { IfOk result (λ _. Takes O.object (L.calls_on (lock_of self.now))
             (held_by L.kind reads) (L.view pass.old) (L.view pass.new)) }
         ensures counted { IfOk result (λ _.
@@ -230,6 +236,7 @@ impl<L: SleepLock<O>, O: Served + Drop> Guarded<L, O> {
         requires numbered { IsSome (L.view pass.old).hand.task }
         requires out { (L.view pass.old).hand.held ≡ No }
         ensures on { StepsOn L.sits L.view (lock_of self.now) pass.old pass.new }
+        ensures queue { GoesOn (L.spun pass.old) (L.spun pass.new) }
         ensures took { IfOk result (λ _. Takes O.object (L.calls_on (lock_of self.now))
             (held_by L.kind reads) (L.view pass.old) (L.view pass.new)) }
         ensures counted { IfOk result (λ _.
@@ -266,6 +273,7 @@ impl<L: SleepLock<O>, O: Served + Drop> Guarded<L, O> {
             (L.view pass.old).hand next }
         requires reads { O.object.reads next.call ≡ true }
         ensures on { StepsOn L.sits L.view (lock_of self.now) pass.old pass.new }
+        ensures queue { GoesOn (L.spun pass.old) (L.spun pass.new) }
         ensures served { Serves O.object L.kind (L.calls_on (lock_of self.now)) next.words result
             (L.view pass.old) (L.view pass.new) }
     {
@@ -296,6 +304,7 @@ impl<L: SleepLock<O>, O: Served + Drop> Guarded<L, O> {
             (L.view pass.old).hand next }
         requires changes { O.object.reads next.call ≡ false }
         ensures on { StepsOn L.sits L.view (lock_of self.now) pass.old pass.new }
+        ensures queue { GoesOn (L.spun pass.old) (L.spun pass.new) }
         ensures served { Serves O.object L.kind (L.calls_on (lock_of self.now)) next.words result
             (L.view pass.old) (L.view pass.new) }
     {
@@ -328,6 +337,7 @@ impl<L: SleepLock<O>, O: Served + Drop> Guarded<L, O> {
         requires done { WasDone O.object (L.calls_on (lock_of self.now))
             (L.view pass.old).hand known reply }
         ensures on { StepsOn L.sits L.view (lock_of self.now) pass.old pass.new }
+        ensures queue { GoesOn (L.spun pass.old) (L.spun pass.new) }
         ensures reply { result ≡ reply }
         ensures released { Releases no_word (L.view pass.old) (L.view pass.new) }
     {
@@ -352,6 +362,7 @@ impl<L: SleepLock<O>, O: Served + Drop> Guarded<L, O> {
         requires done { WasDone O.object (L.calls_on (lock_of self.now))
             (L.view pass.old).hand known reply }
         ensures on { StepsOn L.sits L.view (lock_of self.now) pass.old pass.new }
+        ensures queue { GoesOn (L.spun pass.old) (L.spun pass.new) }
         ensures kept { Looks (L.view pass.old) (L.view pass.new) }
         ensures reply { result ≡ reply }
     {
@@ -372,6 +383,7 @@ impl<L: SleepLock<O>, O: Served + Drop> Guarded<L, O> {
             (L.view pass.old).hand next }
         requires changes { O.object.reads next.call ≡ false }
         ensures on { StepsOn L.sits L.view (lock_of self.now) pass.old pass.new }
+        ensures queue { GoesOn (L.spun pass.old) (L.spun pass.new) }
         ensures reply { result ≡ reply_in O.object (L.calls_on (lock_of self.now))
             (L.view pass.old).hand next.call }
         ensures kept { Changes O.object (L.calls_on (lock_of self.now)) next.call result

@@ -2,13 +2,14 @@
 ghost use Rattle.std.specs.Prelude.{◌≡◌, ◌≢◌, ◌^◌, ◌<◌, ◌≤◌, Some, drop, length, slice_get, take};
 ghost use Rattle.std.specs.List.{AllByRecursion};
 ghost use Rattle.word_bits.specs.PageMaps.{PageMap, IsPageMap, runs};
-ghost use Rattle.lock_core.specs.declared.view.Held.TheVariants.{No};
+ghost use Rattle.lock_core.specs.Pasts.{GoesOn};
 ghost use Rattle.lock_core.specs.Shown.{StepsOn};
 ghost use Rattle.lock_core.specs.Locking.{Looks};
 ghost use Rattle.vma_map.specs.Runs.{page_map};
 ghost use Rattle.vma_map.specs.Spaces.{IsRunAt, stores};
 ghost use Rattle.guarded.specs.CallServing.{readable_from, share};
 ghost use Rattle.guarded.specs.Splicing.{HaveAreas, area_of, areas_in};
+ghost use Rattle.guarded.specs.Types.{No};
 
 use sleep_lock::SleepLock;
 use vma_map::{Areas, Bisection, Search};
@@ -24,6 +25,7 @@ pub(crate) fn find_page<L: SleepLock<Areas>>(
     requires own { L.sits lock.now pass.old }
     requires held { (L.view pass.old).hand.held ≢ No }
     ensures on { StepsOn L.sits L.view lock.now pass.old pass.new }
+    ensures queue { GoesOn (L.spun pass.old) (L.spun pass.new) }
     ensures kept { Looks (L.view pass.old) (L.view pass.new) }
     ensures found { (m : PageMap) → IsPageMap m → stores m ≡ (L.view pass.old).hand.known →
         IsRunAt (runs m) m page result }
@@ -43,6 +45,7 @@ pub(crate) fn area_at<L: SleepLock<Areas>>(lock: &L, pass: &mut L::Pass, at: usi
     requires areas { HaveAreas (L.view pass.old).hand.known }
     requires inside { at < length (areas_in (L.view pass.old).hand.known) }
     ensures on { StepsOn L.sits L.view lock.now pass.old pass.new }
+    ensures queue { GoesOn (L.spun pass.old) (L.spun pass.new) }
     ensures kept { Looks (L.view pass.old) (L.view pass.new) }
     ensures area { slice_get (areas_in (L.view pass.old).hand.known) at ≡ Some result }
 {
@@ -73,6 +76,7 @@ fn count_ended_by<L: SleepLock<Areas>>(
     requires areas { HaveAreas (L.view pass.old).hand.known }
     requires all { count ≡ length (areas_in (L.view pass.old).hand.known) }
     ensures on { StepsOn L.sits L.view lock.now pass.old pass.new }
+    ensures queue { GoesOn (L.spun pass.old) (L.spun pass.new) }
     ensures kept { Looks (L.view pass.old) (L.view pass.new) }
     ensures within { result ≤ count }
     ensures ended { AllByRecursion (λ area. area.end ≤ page)
@@ -102,6 +106,7 @@ pub(crate) fn count_readable<L: SleepLock<Areas>>(
     requires held { (L.view pass.old).hand.held ≢ No }
     requires areas { HaveAreas (L.view pass.old).hand.known }
     ensures on { StepsOn L.sits L.view lock.now pass.old pass.new }
+    ensures queue { GoesOn (L.spun pass.old) (L.spun pass.new) }
     ensures kept { Looks (L.view pass.old) (L.view pass.new) }
     ensures pages { result
         ≡ readable_from (page_map (areas_in (L.view pass.old).hand.known)) start len }

@@ -1,12 +1,13 @@
 //! The objects that tasks are served.
 ghost use Rattle.std.specs.Prelude.{◌≡◌, ◌≢◌, ◌⊎◌, Bool, true, false};
 ghost use Rattle.word_bits.specs.PageMaps.{PageMap, IsPageMap};
-ghost use Rattle.lock_core.specs.declared.view.Held.TheVariants.{No, Alone};
+ghost use Rattle.lock_core.specs.Pasts.{GoesOn};
 ghost use Rattle.lock_core.specs.Shown.{StepsOn};
 ghost use Rattle.lock_core.specs.Locking.{Looks, IsStored};
 ghost use Rattle.vma_map.specs.Spaces.{IsAccess, access_reply, stores};
 ghost use Rattle.guarded.specs.States.{Confirms, reply_in, words_after};
 ghost use Rattle.guarded.specs.Performing.{HasStored};
+ghost use Rattle.guarded.specs.Types.{No, Alone};
 
 use crate::searching::{count_readable, find_page};
 use crate::slots;
@@ -33,6 +34,7 @@ pub trait Served: ValueObject {
         requires valid { Self.object.IsCall call }
         requires looks { (Self.object.reads call ≡ true) ⊎ (downgrades call ≡ true) }
         ensures on { StepsOn L.sits L.view lock.now pass.old pass.new }
+        ensures queue { GoesOn (L.spun pass.old) (L.spun pass.new) }
         ensures kept { Looks (L.view pass.old) (L.view pass.new) }
         ensures read { Self.object.reads call ≡ true →
             result ≡ reply_in Self.object (L.calls_on lock.now) (L.view pass.old).hand call }
@@ -48,6 +50,7 @@ pub trait Served: ValueObject {
         requires valid { Self.object.IsCall call }
         requires changes { Self.object.reads call ≡ false }
         ensures on { StepsOn L.sits L.view lock.now pass.old pass.new }
+        ensures queue { GoesOn (L.spun pass.old) (L.spun pass.new) }
         ensures stored { HasStored (words_after Self.object (L.calls_on lock.now)
             (L.view pass.old).hand call) (L.view pass.old) (L.view pass.new) }
         ensures reply { result
@@ -93,6 +96,7 @@ fn fault<L: SleepLock<Areas>>(lock: &L, pass: &mut L::Pass, page: u32, access: u
     requires held { (L.view pass.old).hand.held ≢ No }
     requires access { IsAccess access }
     ensures on { StepsOn L.sits L.view lock.now pass.old pass.new }
+    ensures queue { GoesOn (L.spun pass.old) (L.spun pass.new) }
     ensures kept { Looks (L.view pass.old) (L.view pass.new) }
     ensures reply { (m : PageMap) → IsPageMap m → stores m ≡ (L.view pass.old).hand.known →
         result ≡ access_reply (m page) access }

@@ -1,11 +1,11 @@
 //! Calls on a table of descriptors, on the words that its lock guards.
 ghost use Rattle.std.specs.Prelude.{◌≡◌, ◌≢◌};
-ghost use Rattle.lock_core.specs.declared.view.Held.TheVariants.{No, Alone};
+ghost use Rattle.lock_core.specs.Pasts.{GoesOn};
 ghost use Rattle.lock_core.specs.Shown.{StepsOn};
 ghost use Rattle.lock_core.specs.Locking.{Looks};
-ghost use Rattle.fd_table.specs.declared.call.TableCall.TheVariants.{Open, Close, Dup, Dup2, Get};
 ghost use Rattle.fd_table.specs.Tables.{FdMap, IsFdMap, lowest_free, meaning, slot_word, stores};
 ghost use Rattle.guarded.specs.Slots.{AreTableWords, DoesTo};
+ghost use Rattle.guarded.specs.Types.{No, Alone, Open, Close, Dup, Dup2, Get};
 
 use fd_table::{DESCRIPTORS, Fds};
 use sleep_lock::SleepLock;
@@ -17,6 +17,7 @@ fn slot<L: SleepLock<Fds>>(lock: &L, pass: &mut L::Pass, fd: u32) -> u64
     requires held { (L.view pass.old).hand.held ≢ No }
     requires table { AreTableWords (L.view pass.old).hand.known }
     ensures on { StepsOn L.sits L.view lock.now pass.old pass.new }
+    ensures queue { GoesOn (L.spun pass.old) (L.spun pass.new) }
     ensures kept { Looks (L.view pass.old) (L.view pass.new) }
     ensures value { (m : FdMap) → IsFdMap m → stores m ≡ (L.view pass.old).hand.known →
         result ≡ slot_word (m fd) }
@@ -33,6 +34,7 @@ fn lowest_free<L: SleepLock<Fds>>(lock: &L, pass: &mut L::Pass) -> Option<u32>
     requires held { (L.view pass.old).hand.held ≢ No }
     requires table { AreTableWords (L.view pass.old).hand.known }
     ensures on { StepsOn L.sits L.view lock.now pass.old pass.new }
+    ensures queue { GoesOn (L.spun pass.old) (L.spun pass.new) }
     ensures kept { Looks (L.view pass.old) (L.view pass.new) }
     ensures value { (m : FdMap) → IsFdMap m → stores m ≡ (L.view pass.old).hand.known →
         result ≡ lowest_free m }
@@ -51,6 +53,7 @@ pub(crate) fn get<L: SleepLock<Fds>>(lock: &L, pass: &mut L::Pass, fd: u32) -> R
     requires held { (L.view pass.old).hand.held ≢ No }
     requires table { AreTableWords (L.view pass.old).hand.known }
     ensures on { StepsOn L.sits L.view lock.now pass.old pass.new }
+    ensures queue { GoesOn (L.spun pass.old) (L.spun pass.new) }
     ensures kept { Looks (L.view pass.old) (L.view pass.new) }
     ensures reply { (m : FdMap) → IsFdMap m → stores m ≡ (L.view pass.old).hand.known →
         result ≡ (meaning m (Get fd)).1 }
@@ -69,6 +72,7 @@ pub(crate) fn open<L: SleepLock<Fds>>(lock: &L, pass: &mut L::Pass, file: u16) -
     requires held { (L.view pass.old).hand.held ≡ Alone }
     requires table { AreTableWords (L.view pass.old).hand.known }
     ensures on { StepsOn L.sits L.view lock.now pass.old pass.new }
+    ensures queue { GoesOn (L.spun pass.old) (L.spun pass.new) }
     ensures done { (m : FdMap) → IsFdMap m → stores m ≡ (L.view pass.old).hand.known →
         DoesTo m (Open file) result (L.view pass.old) (L.view pass.new) }
 {
@@ -87,6 +91,7 @@ pub(crate) fn close<L: SleepLock<Fds>>(lock: &L, pass: &mut L::Pass, fd: u32) ->
     requires held { (L.view pass.old).hand.held ≡ Alone }
     requires table { AreTableWords (L.view pass.old).hand.known }
     ensures on { StepsOn L.sits L.view lock.now pass.old pass.new }
+    ensures queue { GoesOn (L.spun pass.old) (L.spun pass.new) }
     ensures done { (m : FdMap) → IsFdMap m → stores m ≡ (L.view pass.old).hand.known →
         DoesTo m (Close fd) result (L.view pass.old) (L.view pass.new) }
 {
@@ -103,6 +108,7 @@ pub(crate) fn dup<L: SleepLock<Fds>>(lock: &L, pass: &mut L::Pass, fd: u32) -> R
     requires held { (L.view pass.old).hand.held ≡ Alone }
     requires table { AreTableWords (L.view pass.old).hand.known }
     ensures on { StepsOn L.sits L.view lock.now pass.old pass.new }
+    ensures queue { GoesOn (L.spun pass.old) (L.spun pass.new) }
     ensures done { (m : FdMap) → IsFdMap m → stores m ≡ (L.view pass.old).hand.known →
         DoesTo m (Dup fd) result (L.view pass.old) (L.view pass.new) }
 {
@@ -119,6 +125,7 @@ pub(crate) fn dup2<L: SleepLock<Fds>>(lock: &L, pass: &mut L::Pass, fd: u32, to:
     requires held { (L.view pass.old).hand.held ≡ Alone }
     requires table { AreTableWords (L.view pass.old).hand.known }
     ensures on { StepsOn L.sits L.view lock.now pass.old pass.new }
+    ensures queue { GoesOn (L.spun pass.old) (L.spun pass.new) }
     ensures done { (m : FdMap) → IsFdMap m → stores m ≡ (L.view pass.old).hand.known →
         DoesTo m (Dup2 fd to) result (L.view pass.old) (L.view pass.new) }
 {

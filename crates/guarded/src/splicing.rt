@@ -1,10 +1,11 @@
 //! The areas of a space in the words that its lock guards.
 ghost use Rattle.std.specs.Prelude.{◌≡◌, ◌+◌, ◌-◌, ◌≤◌, length, map};
 ghost use Rattle.word_bits.specs.AreaWord.{area_word};
-ghost use Rattle.lock_core.specs.declared.view.Held.TheVariants.{Alone};
+ghost use Rattle.lock_core.specs.Pasts.{GoesOn};
 ghost use Rattle.vma_map.specs.Runs.{AreRuns};
 ghost use Rattle.guarded.specs.CallServing.{AreZeroFrom};
 ghost use Rattle.guarded.specs.Splicing.{ChangesWords, HaveAreas, IsCleared, IsWritten, MakeRoom, MovesDown, areas_in};
+ghost use Rattle.guarded.specs.Types.{Alone};
 
 use crate::searching::area_at;
 use sleep_lock::SleepLock;
@@ -27,7 +28,8 @@ impl<L: SleepLock<Areas>> AreaStore for LockedAreas<L> {
     ghost has = { λ lock pass. L.sits lock pass
         × ((L.view pass).hand.held ≡ Alone) × HaveAreas (L.view pass).hand.known };
 
-    ghost keeps = { λ _ pass after. ChangesWords (L.view pass) (L.view after) };
+    ghost keeps = { λ _ pass after. ChangesWords (L.view pass) (L.view after)
+        × GoesOn (L.spun pass) (L.spun after) };
 
     fn len(place: &L, hand: &mut L::Pass) -> usize {
         place.word(hand, 0) as usize
@@ -48,10 +50,12 @@ impl<L: SleepLock<Areas>> AreaStore for LockedAreas<L> {
 
     ghost in_order = { λ _ _ has. has.2.space };
 
-    ghost keeps_itself = { λ _ pass. changes-none (L.view pass) };
+    ghost keeps_itself = { λ _ pass. (changes-none (L.view pass), λ p t. t) };
 
-    ghost keeps_on = { λ _ pass after later a b.
-        changes-more (L.view pass) (L.view after) (L.view later) a b };
+    ghost keeps_on = { λ _ pass after later a b. (
+      changes-more (L.view pass) (L.view after) (L.view later) a.0 b.0,
+      λ p t. b.1 p (a.1 p t),
+    ) };
 }
 
 /// Moves the areas behind so many, so that so many pieces fit in their place.
@@ -71,6 +75,7 @@ fn fit<L: SleepLock<Areas>>(
     requires few { len ≤ 256 }
     requires zeros { AreZeroFrom (len + 1) (L.view pass.old).hand.known }
     ensures own { L.sits lock.now pass.new }
+    ensures queue { GoesOn (L.spun pass.old) (L.spun pass.new) }
     ensures kept { ChangesWords (L.view pass.old) (L.view pass.new) }
     ensures moved { MakeRoom at count pieces
         (L.view pass.old).hand.known (L.view pass.new).hand.known }
@@ -91,6 +96,7 @@ fn close_up<L: SleepLock<Areas>>(lock: &L, pass: &mut L::Pass, at: usize, fewer:
     requires few { len ≤ 256 }
     requires zeros { AreZeroFrom (len + 1) (L.view pass.old).hand.known }
     ensures own { L.sits lock.now pass.new }
+    ensures queue { GoesOn (L.spun pass.old) (L.spun pass.new) }
     ensures kept { ChangesWords (L.view pass.old) (L.view pass.new) }
     ensures moved { MakeRoom at fewer 0
         (L.view pass.old).hand.known (L.view pass.new).hand.known }
@@ -107,6 +113,7 @@ fn move_down<L: SleepLock<Areas>>(lock: &L, pass: &mut L::Pass, at: usize, fewer
     requires within { at + fewer ≤ len }
     requires few { len ≤ 256 }
     ensures own { L.sits lock.now pass.new }
+    ensures queue { GoesOn (L.spun pass.old) (L.spun pass.new) }
     ensures kept { ChangesWords (L.view pass.old) (L.view pass.new) }
     ensures moved { MovesDown at fewer (len - fewer)
         (L.view pass.old).hand.known (L.view pass.new).hand.known }
@@ -125,6 +132,7 @@ fn write_zeros<L: SleepLock<Areas>>(lock: &L, pass: &mut L::Pass, at: usize, len
     requires within { at ≤ len }
     requires few { len ≤ 256 }
     ensures own { L.sits lock.now pass.new }
+    ensures queue { GoesOn (L.spun pass.old) (L.spun pass.new) }
     ensures kept { ChangesWords (L.view pass.old) (L.view pass.new) }
     ensures zeros { IsCleared at len
         (L.view pass.old).hand.known (L.view pass.new).hand.known }
@@ -143,6 +151,7 @@ fn make_room<L: SleepLock<Areas>>(lock: &L, pass: &mut L::Pass, at: usize, more:
     requires room { len + more ≤ 256 }
     requires zeros { AreZeroFrom (len + 1) (L.view pass.old).hand.known }
     ensures own { L.sits lock.now pass.new }
+    ensures queue { GoesOn (L.spun pass.old) (L.spun pass.new) }
     ensures kept { ChangesWords (L.view pass.old) (L.view pass.new) }
     ensures moved { MakeRoom at 0 more
         (L.view pass.old).hand.known (L.view pass.new).hand.known }
@@ -167,6 +176,7 @@ fn write_pieces<L: SleepLock<Areas>>(lock: &L, pass: &mut L::Pass, at: usize, pi
     requires room { at + length pieces.now ≤ 256 }
     requires runs { AreRuns pieces.now }
     ensures own { L.sits lock.now pass.new }
+    ensures queue { GoesOn (L.spun pass.old) (L.spun pass.new) }
     ensures kept { ChangesWords (L.view pass.old) (L.view pass.new) }
     ensures written { IsWritten at (map area_word pieces.now)
         (L.view pass.old).hand.known (L.view pass.new).hand.known }

@@ -3,11 +3,6 @@ use Rattle.std.proofs.Common.{◌≡◌, ◌≢◌, ◌∙◌, ℕ, ◌+◌, ◌
 use Rattle.word_bits.specs.Objects.{Obj}
 use Rattle.word_bits.specs.Histories.{Plan}
 use Rattle.lock_core.specs.declared.layout.TheConstants.{LOCK_WORDS}
-use Rattle.lock_core.specs.declared.view.Hand.{Hand}
-use Rattle.lock_core.specs.declared.view.Held.{Held}
-use Rattle.lock_core.specs.declared.view.Held.TheVariants.{No, Shared, Alone}
-use Rattle.lock_core.specs.declared.view.SpinHand.{SpinHand}
-use Rattle.lock_core.specs.declared.view.Moment.{Moment}
 use Rattle.lock_core.specs.Kinds.{Kind, mutex, semaphore, unavailable}
 use Rattle.lock_core.specs.Locked.{CountStates, IsLockedThen, IsSiteStep, OwnerStates, WordStates}
 use Rattle.lock_core.specs.Pasts.{EachMoment, Paced}
@@ -16,6 +11,7 @@ use Rattle.lock_core.specs.Totals.{total, total-at}
 use Rattle.lock_core.specs.Views.{alone_of, alone_weight}
 use Rattle.kept_words.specs.Keeping.{hold_of}
 use Rattle.kept_words.specs.Left.{held_alone, FoundAsLeft, HeldApart, IsHeldAtLast}
+use Rattle.kept_words.specs.Types.{Hand, Held, No, Shared, Alone, SpinHand, Moment}
 use Rattle.kept_words.proofs.Leaving.{HoldsIn, each-not-alone, found-left, held-apart, not-alone}
 
 -- an owner word that stays names a pass that holds alone still

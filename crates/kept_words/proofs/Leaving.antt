@@ -8,10 +8,6 @@ use Rattle.word_bits.specs.Objects.{Obj}
 use Rattle.word_bits.specs.LockWords.{Unavailable}
 use Rattle.word_bits.specs.Histories.{Plan}
 use Rattle.lock_core.specs.declared.layout.TheConstants.{LOCK_WORDS}
-use Rattle.lock_core.specs.declared.view.Hand.{Hand}
-use Rattle.lock_core.specs.declared.view.Held.{Held}
-use Rattle.lock_core.specs.declared.view.Held.TheVariants.{No, Shared, Alone}
-use Rattle.lock_core.specs.declared.view.Moment.{Moment}
 use Rattle.lock_core.specs.Layout.{lay, site}
 use Rattle.lock_core.specs.Locked.{IsSiteStep}
 use Rattle.lock_core.specs.Pasts.{EachMoment, Paced}
@@ -20,6 +16,7 @@ use Rattle.lock_core.specs.ViewParts.{Each}
 use Rattle.lock_core.specs.Views.{alone_weight}
 use Rattle.lock_core.proofs.RowLaws.{none-some, same-some}
 use Rattle.kept_words.specs.Left.{if_alone, held_alone, last_left, or_else, FindsLeft, FoundAsLeft, HeldApart}
+use Rattle.kept_words.specs.Types.{Hand, Held, No, Shared, Alone, Moment}
 
 -- a pass that holds alone, and what it knows of the words
 pub record HoldsIn (hs : List Hand) (words : List ℕ) : Type 0 where

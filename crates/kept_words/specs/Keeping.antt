@@ -1,15 +1,9 @@
 -- Words that a lock keeps, and what its passes may do with them.
 use Rattle.std.specs.Prelude.{◌≡◌, ◌≢◌, ◌==◌, ◌⊎◌, ℕ, Bool, true, false, List, [], ◌∷◌, length, replicate, Option, Some, None, IsSome, if◌then◌else◌}
-use Rattle.word_bits.specs.declared.call.CallWords.{CallWords}
-use Rattle.word_bits.specs.declared.entry.Entry.{Entry}
-use Rattle.word_bits.specs.declared.reply.Reply.TheVariants.{Good}
+use Rattle.kept_words.specs.Types.{CallWords, Entry, Good, Hand, Held, No, Shared, Alone, Moment}
 use Rattle.word_bits.specs.LockWords.{Unavailable}
 use Rattle.word_bits.specs.Histories.{Plan}
 use Rattle.word_bits.specs.Objects.{Obj}
-use Rattle.lock_core.specs.declared.view.Hand.{Hand}
-use Rattle.lock_core.specs.declared.view.Held.{Held}
-use Rattle.lock_core.specs.declared.view.Held.TheVariants.{No, Shared, Alone}
-use Rattle.lock_core.specs.declared.view.Moment.{Moment}
 use Rattle.lock_core.specs.Shown.{Shown}
 use Rattle.lock_core.specs.SitePasses.{IsChange, Numbered}
 use Rattle.lock_core.specs.Views.{next_entry}

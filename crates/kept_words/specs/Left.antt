@@ -2,12 +2,9 @@
 use Rattle.std.specs.Prelude.{◌≡◌, ◌≢◌, ℕ, List, [], ◌∷◌, Option, Some, None}
 use mathlib.Core.Option.{some}
 use lib.ListN.{get_elem?}
-use Rattle.lock_core.specs.declared.view.Hand.{Hand}
-use Rattle.lock_core.specs.declared.view.Held.{Held}
-use Rattle.lock_core.specs.declared.view.Held.TheVariants.{No, Shared, Alone}
-use Rattle.lock_core.specs.declared.view.Moment.{Moment}
 use Rattle.lock_core.specs.ViewParts.{Each}
 use Rattle.kept_words.specs.Keeping.{Hold, hold_of}
+use Rattle.kept_words.specs.Types.{Hand, Held, No, Shared, Alone, Moment}
 
 -- the words that a pass knows, if it holds so, and else the rest
 abbrev pub if_alone : Held → List ℕ → Option (List ℕ) → Option (List ℕ)

@@ -1,3 +1,4 @@
+pub mod Types
 pub mod Keeping
 pub mod Left
 pub mod Laws

@@ -1,7 +1,7 @@
 //! What is so of the words that a lock keeps.
 ghost use Rattle.std.specs.Prelude.{◌≡◌, ◌≤◌, ℕ, List};
-ghost use Rattle.word_bits.specs.declared.call.CallWords.{CallWords};
 ghost use Rattle.kept_words.specs.Keeping.{kept};
+ghost use Rattle.kept_words.specs.Types.{CallWords};
 
 use std::marker::PhantomData;
 use word_bits::{CallWords, Object};

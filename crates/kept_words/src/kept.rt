@@ -1,10 +1,9 @@
 //! What a task may do with words that a lock keeps.
 ghost use Rattle.std.specs.Prelude.{◌≡◌, ◌≢◌, ◌<◌, true, false, List, length, slice_index, slice_set};
-ghost use Rattle.lock_core.specs.declared.view.Held.TheVariants.{No, Shared, Alone};
-ghost use Rattle.lock_core.specs.declared.view.Moment.{Moment};
 ghost use Rattle.lock_core.specs.Pasts.{EachMoment, GoesOn};
 ghost use Rattle.kept_words.specs.Keeping.{Hold};
 ghost use Rattle.kept_words.specs.Left.{FoundAsLeft, HeldApart, IsHeldAtLast};
+ghost use Rattle.kept_words.specs.Types.{No, Shared, Alone, Moment};
 
 use crate::invariant::Invariant;
 use std::sync::Wait;

@@ -2,8 +2,8 @@
 ghost use Rattle.std.specs.Prelude.{◌≡◌, ◌<◌, ◌≤◌, length, vec_len, None, IfOk};
 ghost use Rattle.std.specs.Arc.{arc_value};
 ghost use Rattle.word_bits.specs.declared.TheConstants.{MAX_TASKS};
-ghost use Rattle.lock_core.specs.declared.view.Held.TheVariants.{No};
 ghost use Rattle.kept_words.specs.Keeping.{IsTask};
+ghost use Rattle.kept_words.specs.Types.{No};
 ghost use Rattle.mutex_slow.specs.MutexHandles.{hand_in, plan_of, shown_of, SitsAt};
 
 use crate::invariant::{Invariant, Words};

@@ -1,10 +1,9 @@
 //! How the first words come under a lock: its first task stores them, and records that it did.
 ghost use Rattle.std.specs.Prelude.{◌≡◌, ◌<◌, ◌≤◌, ◌-◌, ◌⊎◌, ℕ, [], ◌∷◌, length, vec_len, None, Some, IfOk};
 ghost use Rattle.word_bits.specs.declared.TheConstants.{MAX_TASKS};
-ghost use Rattle.word_bits.specs.declared.reply.Reply.TheVariants.{Good};
-ghost use Rattle.lock_core.specs.declared.view.Held.TheVariants.{No, Alone};
 ghost use Rattle.lock_core.specs.Kinds.{unavailable};
 ghost use Rattle.kept_words.specs.Keeping.{opening_entry, opening_plan, IsTask, OnlyWrites, Opens};
+ghost use Rattle.kept_words.specs.Types.{Good, No, Alone};
 
 use cpu_task::{Crew, Turns};
 use lock_core::{Plan, SiteLock};

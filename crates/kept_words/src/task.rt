@@ -1,7 +1,7 @@
 //! Tasks that hold words for the time of one call alone.
 ghost use Rattle.std.specs.Prelude.{◌≡◌, IfSome};
-ghost use Rattle.lock_core.specs.declared.view.Held.TheVariants.{No, Shared, Alone};
 ghost use Rattle.kept_words.specs.Keeping.{HoldsAlone, HoldsShared};
+ghost use Rattle.kept_words.specs.Types.{No, Shared, Alone};
 
 use crate::kept::{Kept, KeptShared};
 use std::sync::Wait;

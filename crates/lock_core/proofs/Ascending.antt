@@ -3,15 +3,9 @@ use Rattle.std.proofs.Common.{◌≡◌, ◌≢◌, ℕ, zero, suc, ◌+◌, ◌
 use Rattle.std.proofs.lemmas.List.{length-drop, get_or-set_other}
 use mathlib.Core.Logic.{dite}
 use native.Mathlib.Decide.{ℕ_discrete}
-use Rattle.word_bits.specs.declared.call.CallWords.{CallWords}
-use Rattle.word_bits.specs.declared.rec.Rec.{Rec}
-use Rattle.word_bits.specs.declared.reply.Reply.{Reply}
-use Rattle.word_bits.specs.declared.reply.Reply.TheVariants.{Good, Num, Refused, MapErr, AccErr, Busy, Intr, Sent}
 use Rattle.word_bits.specs.RecWord.{rec_word, kind_of}
 use Rattle.word_bits.specs.Objects.{Obj, IsObjectReply}
 use Rattle.word_bits.specs.Histories.{Plan, changes}
-use Rattle.lock_core.specs.declared.view.Hand.{Hand}
-use Rattle.lock_core.specs.declared.view.Moment.{Moment}
 use Rattle.lock_core.specs.Plans.{calls_in, start}
 use Rattle.lock_core.specs.Layout.{SiteWords, site}
 use Rattle.lock_core.specs.Linear.{AppliesCall, TakesEffect, IsLinearizationPoint, IsSimulationStep, LinearizesTo}
@@ -24,6 +18,7 @@ use Rattle.lock_core.proofs.Reading.{rec_word-some}
 use Rattle.lock_core.proofs.RecordLaws.{changes-is}
 use Rattle.lock_core.proofs.RowLaws.{same-some, some-inside}
 use Rattle.lock_core.specs.Orders.{record_in, IsServed, PlacesFollowLinearizationPoints}
+use Rattle.lock_core.specs.Types.{CallWords, Rec, Reply, Good, Num, Refused, MapErr, AccErr, Busy, Intr, Sent, Hand, Moment}
 
 object-kind : (r : Reply) → IsObjectReply r → kind_of r ≤ 5
 object-kind Good i = omega arith

@@ -6,19 +6,12 @@ use mathlib.Core.Logic.{dite}
 use native.Mathlib.Decide.{ℕ_discrete}
 use lib.ListN.{get_elem?}
 use Rattle.word_bits.specs.declared.TheConstants.{MAX_TASKS}
-use Rattle.word_bits.specs.declared.call.CallWords.{CallWords}
-use Rattle.word_bits.specs.declared.rec.Rec.{Rec}
-use Rattle.word_bits.specs.declared.reply.Reply.{Reply}
-use Rattle.word_bits.specs.declared.reply.Reply.TheVariants.{Good, Num, Refused, MapErr, AccErr, Busy, Intr, Sent}
 use Rattle.word_bits.specs.RecWord.{IsRec, rec_word, kind_of, value_of}
 use Rattle.word_bits.specs.LockWords.{Unavailable}
 use Rattle.word_bits.specs.Objects.{Obj}
 use Rattle.word_bits.specs.Histories.{Plan, Records}
 use Rattle.word_bits.specs.Legal.{is_intr, signals_to}
 use Rattle.lock_core.specs.declared.layout.TheConstants.{LOCK_WORDS, LINES_AT}
-use Rattle.lock_core.specs.declared.view.Hand.{Hand}
-use Rattle.lock_core.specs.declared.view.Saw.{Saw}
-use Rattle.lock_core.specs.declared.view.Moment.{Moment}
 use Rattle.lock_core.specs.Causes.{IsStepDuring, FailedTryDuring, RaisedDuring, IsRecordedThen, HasCause, CallsHaveCauses}
 use Rattle.lock_core.specs.Layout.{site}
 use Rattle.lock_core.specs.Locked.{IsSiteStepWhere, SamePass, IsGone}
@@ -30,6 +23,7 @@ use Rattle.lock_core.specs.Regions.{part-at}
 use Rattle.lock_core.specs.Sites.{FailsTry, KeepsSaw, SawSince, StoresRecord, taken_at, sent_at, consumed_at}
 use Rattle.lock_core.specs.SiteStated.{IsNew, IsSite, IsSiteThen}
 use Rattle.lock_core.specs.Totals.{total}
+use Rattle.lock_core.specs.Types.{CallWords, Rec, Reply, Good, Num, Refused, MapErr, AccErr, Busy, Intr, Sent, Hand, Saw, Moment}
 use Rattle.lock_core.specs.Views.{stranger, is_number, consumed_weight, named_of, sent_of, consumed_of}
 use Rattle.lock_core.proofs.Ascending.{start-same, set-at}
 use Rattle.lock_core.proofs.Linearizing.{kind-most, one-last, rest-last, plan-or-not, total-moves}

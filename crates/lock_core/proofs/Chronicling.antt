@@ -6,24 +6,17 @@ use mathlib.Core.Option.{some, some-injective}
 use mathlib.Core.Logic.{dite}
 use native.Mathlib.Decide.{ℕ_discrete}
 use lib.ListN.{get_elem?}
-use Rattle.word_bits.specs.declared.call.CallWords.{CallWords}
-use Rattle.word_bits.specs.declared.entry.Entry.{Entry}
-use Rattle.word_bits.specs.declared.rec.Rec.{Rec}
 use Rattle.word_bits.specs.LockWords.{Unavailable}
 use Rattle.word_bits.specs.Objects.{Obj}
 use Rattle.word_bits.specs.Histories.{Plan, Records}
 use Rattle.word_bits.specs.Legal.{signals_to}
-use Rattle.lock_core.specs.declared.view.Hand.{Hand}
-use Rattle.lock_core.specs.declared.view.Held.{Held}
-use Rattle.lock_core.specs.declared.view.Held.TheVariants.{No, Shared, Alone}
-use Rattle.lock_core.specs.declared.view.Stage.{Stage}
-use Rattle.lock_core.specs.declared.view.Stage.TheVariants.{Rest, Entered, Logged}
 use Rattle.lock_core.specs.Layout.{SiteWords}
 use Rattle.lock_core.specs.Records.{bit, row, is_sent, task_sends, sends, intrs, AreNext}
 use Rattle.lock_core.specs.Views.{is_number, held_weight, alone_weight, owed_weight, held_of, alone_of, owed_of, named_of, sent_of}
 use Rattle.lock_core.specs.Sites.{SiteKept}
 use Rattle.lock_core.specs.Totals.{total, total-at, total-two}
 use Rattle.lock_core.specs.Chronicles.{Chronicles}
+use Rattle.lock_core.specs.Types.{CallWords, Entry, Rec, Hand, Held, No, Shared, Alone, Stage, Rest, Entered, Logged}
 use Rattle.lock_core.proofs.RowLaws.{none-some, same-some, some-inside, row-task}
 use Rattle.lock_core.proofs.Numbering.{next-short}
 use Rattle.lock_core.proofs.HandLaws.{number-or-not, is_number-here, is_number-else}

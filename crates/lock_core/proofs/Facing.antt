@@ -1,11 +1,7 @@
 -- What a call of the site makes of a pass of the lock.
 use Rattle.std.proofs.Common.{◌≡◌, ◌∙◌, ℕ, ◌+◌, ◌<◌, sym, ap, subst, arith}
-use Rattle.word_bits.specs.declared.reply.Reply.{Reply}
-use Rattle.word_bits.specs.declared.reply.Reply.TheVariants.{Busy, Intr, Sent, Good, Num, Refused, MapErr, AccErr}
 use Rattle.lock_core.specs.declared.pass.Pass.{Pass}
-use Rattle.lock_core.specs.declared.view.Hand.{Hand}
 use Rattle.std.specs.Prelude.{Option, Some, None, IfSome, IfNone}
-use Rattle.lock_core.specs.declared.how.Interrupted.{Interrupted}
 use Rattle.lock_core.specs.SiteHandles.{view_of, hand_in, past_of, KeepsPast, SawNonePending}
 use Rattle.lock_core.specs.Locking.{Has, HasSince}
 use Rattle.lock_core.specs.Pasts.{FoundAt, GoesOn}
@@ -13,6 +9,7 @@ use Rattle.lock_core.specs.SitePasses.{Consumes}
 use Rattle.lock_core.specs.Shown.{Shown, AllButHand, PastGoesOn}
 use Rattle.lock_core.specs.Views.{Beside, note_steps}
 use Rattle.lock_core.specs.Faces.{IsFace, Follows, KeepsHold}
+use Rattle.lock_core.specs.Types.{Reply, Busy, Intr, Sent, Good, Num, Refused, MapErr, AccErr, Hand, Interrupted}
 
 -- a note takes a step at least
 pub note-moves : (reply : Reply) → 0 < note_steps reply

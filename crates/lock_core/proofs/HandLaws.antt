@@ -2,17 +2,12 @@
 use Rattle.std.proofs.Common.{◌≡◌, ◌≢◌, ℕ, ◌≤◌, Bool, true, false, leb, List, [], ◌∷◌, ◌++◌, length, set, Option, Some, None, sym, refl, ap, ◌∙◌, subst, arith, eq-eqb, ne_eqb, leb-true, leb-false, if◌then◌else◌, ◌+◌, suc}
 use mathlib.Core.Option.{some}
 use lib.ListN.{get_elem?}
-use Rattle.word_bits.specs.declared.entry.Entry.{Entry}
 use Rattle.word_bits.specs.Histories.{Plan}
-use Rattle.lock_core.specs.declared.view.Hand.{Hand}
-use Rattle.lock_core.specs.declared.view.Held.{Held}
-use Rattle.lock_core.specs.declared.view.Held.TheVariants.{No, Shared, Alone}
-use Rattle.lock_core.specs.declared.view.Stage.{Stage}
-use Rattle.lock_core.specs.declared.view.Stage.TheVariants.{Rest, Entered, Logged}
 use Rattle.lock_core.specs.Records.{bit}
 use Rattle.lock_core.specs.Views.{stranger, longer, held_weight, alone_weight, owed_weight, is_number, consumed_weight, held_of, alone_of, writes_of, owed_of, named_of, sent_of, consumed_of}
 use Rattle.lock_core.specs.Sites.{tally}
 use Rattle.lock_core.specs.Totals.{total, total-same, total-snoc}
+use Rattle.lock_core.specs.Types.{Entry, Hand, Held, No, Shared, Alone, Stage, Rest, Entered, Logged}
 use Rattle.lock_core.proofs.RowLaws.{same-some}
 
 pub alone-is-held : (x : Held) → x ≡ Alone → x ≢ No

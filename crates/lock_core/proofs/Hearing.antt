@@ -1,8 +1,7 @@
 -- What the steps of a call tell it of signals.
 use Rattle.std.proofs.Common.{◌≡◌, ℕ, ◌+◌, sym, ap, ◌∙◌, arith}
-use Rattle.lock_core.specs.declared.view.Heard.{Heard}
-use Rattle.lock_core.specs.declared.view.View.{View}
 use Rattle.lock_core.specs.Signals.{HearsOfBoth}
+use Rattle.lock_core.specs.Types.{Heard, View}
 use Rattle.lock_core.specs.Views.{handed, hearing, ticked}
 
 -- a load of the signals that were sent, and one of those that were consumed

@@ -4,20 +4,14 @@ use mathlib.Core.Option.{some}
 use lib.ListN.{get_elem?}
 use Rattle.word_bits.specs.LockWords.{Unavailable}
 use Rattle.word_bits.specs.Objects.{Obj}
-use Rattle.word_bits.specs.declared.entry.Entry.{Entry}
 use Rattle.word_bits.specs.Histories.{Plan, Records, state_after}
-use Rattle.lock_core.specs.declared.view.Hand.{Hand}
-use Rattle.lock_core.specs.declared.view.Saw.{Saw}
-use Rattle.lock_core.specs.declared.view.Held.{Held}
-use Rattle.lock_core.specs.declared.view.Held.TheVariants.{No, Shared, Alone}
-use Rattle.lock_core.specs.declared.view.Stage.{Stage}
-use Rattle.lock_core.specs.declared.view.Stage.TheVariants.{Rest, Entered, Logged}
 use Rattle.lock_core.specs.Layout.{SiteWords}
 use Rattle.lock_core.specs.Records.{bit}
 use Rattle.lock_core.specs.Views.{took, held_weight, alone_weight, held_of, alone_of, writes_of, owed_of, named_of, sent_of, consumed_of}
 use Rattle.lock_core.specs.Holding.{missed, released, downgraded}
 use Rattle.lock_core.specs.Sites.{HeardOk, HandOk, SiteKept}
 use Rattle.lock_core.specs.Totals.{total, total-set, total-same, total-at}
+use Rattle.lock_core.specs.Types.{Entry, Hand, Saw, Held, No, Shared, Alone, Stage, Rest, Entered, Logged}
 use Rattle.lock_core.specs.ViewParts.{Each, each-set}
 use Rattle.lock_core.proofs.RowLaws.{none-some, same-some}
 use Rattle.lock_core.proofs.HandLaws.{no-alone, rest-logged, rest-entered, not-both, false-or-true, one-stays, sum-stays}

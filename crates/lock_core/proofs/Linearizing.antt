@@ -6,23 +6,12 @@ use mathlib.Core.Logic.{dite}
 use native.Mathlib.Decide.{ℕ_discrete}
 use lib.ListN.{get_elem?}
 use Rattle.atomic_table.proofs.Lists.{at_map}
-use Rattle.word_bits.specs.declared.call.CallWords.{CallWords}
-use Rattle.word_bits.specs.declared.entry.Entry.{Entry}
-use Rattle.word_bits.specs.declared.rec.Rec.{Rec}
-use Rattle.word_bits.specs.declared.reply.Reply.{Reply}
-use Rattle.word_bits.specs.declared.reply.Reply.TheVariants.{Good, Num, Refused, MapErr, AccErr, Busy, Intr, Sent}
 use Rattle.word_bits.specs.EntryWord.{IsEntry, entry_word}
 use Rattle.word_bits.specs.RecWord.{IsRec, rec_word, kind_of, value_of}
 use Rattle.word_bits.specs.LockWords.{Unavailable}
 use Rattle.word_bits.specs.Objects.{Obj, IsObjectReply}
 use Rattle.word_bits.specs.Histories.{Plan, Records, state_after, changes, logs}
 use Rattle.word_bits.specs.Legal.{IsRecord, IsUnheldReply, seen_after}
-use Rattle.lock_core.specs.declared.view.View.{View}
-use Rattle.lock_core.specs.declared.view.Hand.{Hand}
-use Rattle.lock_core.specs.declared.view.Moment.{Moment}
-use Rattle.lock_core.specs.declared.view.Held.{Held}
-use Rattle.lock_core.specs.declared.view.Held.TheVariants.{No, Shared, Alone}
-use Rattle.lock_core.specs.declared.view.Stage.TheVariants.{Logged}
 use Rattle.lock_core.specs.Plans.{calls_in, start}
 use Rattle.lock_core.specs.Layout.{SiteWords, site}
 use Rattle.lock_core.specs.Records.{bit, row, task_recs, rec_words, IsNext, AreNext}
@@ -33,6 +22,7 @@ use Rattle.lock_core.specs.SiteStated.{IsNew}
 use Rattle.lock_core.specs.Pasts.{Instant, moment, steps_of, Moves, Paced, Ran, Tail}
 use Rattle.lock_core.specs.Linear.{AppliesCall, TakesEffect, IsSimulationStep, RepresentsAbstractState, LinearizesTo, IsLinearizable, IsLogOf, StateIsThatAfterLog}
 use Rattle.lock_core.specs.Totals.{total, total-at, total-two}
+use Rattle.lock_core.specs.Types.{CallWords, Entry, Rec, Reply, Good, Num, Refused, MapErr, AccErr, Busy, Intr, Sent, View, Hand, Moment, Held, No, Shared, Alone, Logged}
 use Rattle.lock_core.specs.ViewParts.{Each, at_unmap}
 use Rattle.lock_core.proofs.RowLaws.{none-some, same-some, some-inside, get-there, start-below, length-task_recs, rec_words-at, task_recs-at, task_recs-none}
 use Rattle.lock_core.proofs.HandLaws.{no-alone, stage-cases, not-both}

@@ -6,14 +6,11 @@ use mathlib.Core.List.{map-append}
 use lib.ListN.{get_elem?}
 use lib.Seq.{map-set, set-get_or}
 use Rattle.atomic_table.proofs.Lists.{at_map}
-use Rattle.lock_core.specs.declared.view.View.{View}
-use Rattle.lock_core.specs.declared.view.Moment.{Moment}
-use Rattle.lock_core.specs.declared.view.Past.{Past}
-use Rattle.lock_core.specs.declared.view.Seen.{Seen}
 use Rattle.lock_core.specs.Moves.{Goes}
 use Rattle.lock_core.specs.ViewParts.{each-set, each-snoc, set-there}
 use Rattle.lock_core.specs.Views.{hand_of, spin_of}
 use Rattle.lock_core.specs.Pasts.{Tail, ChangesOneWord, GoesOn, Instant, instant, view_of, steps_of, fronts_of, marks_of, moment, Moves, Lived, HasSeen, IsMarked, IsOwnStep}
+use Rattle.lock_core.specs.Types.{View, Moment, Past, Seen}
 use Rattle.lock_core.proofs.RowLaws.{none-some, same-some}
 
 -- a step that changes no word

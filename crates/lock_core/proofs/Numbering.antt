@@ -2,15 +2,10 @@
 use Rattle.std.proofs.Common.{◌≡◌, ℕ, zero, suc, ◌+◌, ◌*◌, ◌<◌, ◌≤◌, max, Bool, List, [], ◌∷◌, length, take, get_or, set, slice_get, Some, None, refl, sym, ap, subst, ◌∙◌, arith, length-take-le, inl, inr}
 use mathlib.Core.Option.{some}
 use lib.ListN.{get_elem?}
-use Rattle.word_bits.specs.declared.call.CallWords.{CallWords}
-use Rattle.word_bits.specs.declared.entry.Entry.{Entry}
-use Rattle.word_bits.specs.declared.rec.Rec.{Rec}
 use Rattle.word_bits.specs.LockWords.{Unavailable}
 use Rattle.word_bits.specs.Objects.{Obj}
 use Rattle.word_bits.specs.Histories.{Plan, logs}
 use Rattle.word_bits.specs.Legal.{seen_after}
-use Rattle.lock_core.specs.declared.view.Hand.{Hand}
-use Rattle.lock_core.specs.declared.view.View.{View}
 use Rattle.lock_core.specs.Layout.{SiteWords, lay}
 use Rattle.lock_core.specs.Plans.{calls_in}
 use Rattle.lock_core.specs.Records.{row, AreNext, seen_by}
@@ -19,11 +14,10 @@ use Rattle.lock_core.specs.Sites.{SiteKept, SiteStep}
 use Rattle.lock_core.specs.Moves.{KeepsHold}
 use Rattle.atomic_table.specs.Table.{Me}
 use Rattle.atomic_table.specs.Seated.{TableId}
-use Rattle.lock_core.specs.declared.view.Seen.{Seen}
-use Rattle.lock_core.specs.declared.view.Held.{Held}
 use Rattle.lock_core.specs.declared.pass.Face.{Face}
 use Rattle.lock_core.specs.SitePasses.{Sits, Numbered}
 use Rattle.lock_core.specs.Regions.{part-at}
+use Rattle.lock_core.specs.Types.{CallWords, Entry, Rec, Hand, View, Seen, Held}
 use Rattle.lock_core.proofs.RowLaws.{none-some, same-some, get-longer, get-there}
 use Rattle.lock_core.proofs.HandLaws.{longer-is}
 use Rattle.lock_core.proofs.RecordLaws.{seen_by-within}

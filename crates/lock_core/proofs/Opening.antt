@@ -2,12 +2,9 @@
 use Rattle.std.proofs.Common.{◌≡◌, ℕ, zero, suc, ◌+◌, ◌-◌, ◌*◌, ◌<◌, ◌≤◌, List, [], ◌∷◌, ◌++◌, length, take, drop, get_or, replicate, Some, sym, refl, ap, ◌∙◌, subst, arith, length-append, take_all}
 use Rattle.std.proofs.lemmas.List.{length-replicate}
 use mathlib.Core.Option.{some-ne-none}
-use Rattle.word_bits.specs.declared.call.CallWords.{CallWords}
-use Rattle.word_bits.specs.declared.rec.Rec.{Rec}
 use Rattle.word_bits.specs.LockWords.{Unavailable}
 use Rattle.word_bits.specs.Objects.{Obj}
 use Rattle.word_bits.specs.Histories.{Plan, Records}
-use Rattle.lock_core.specs.declared.view.Hand.{Hand}
 use Rattle.lock_core.specs.declared.layout.TheConstants.{LOCK_WORDS, ENTRIES_AT, LENGTH_AT, LINES_AT}
 use Rattle.lock_core.specs.Plans.{calls_in, task_words, call_words, IsSmall}
 use Rattle.lock_core.specs.Layout.{SiteWords, part, calls_at, width, lay, fresh, site}
@@ -16,6 +13,7 @@ use Rattle.lock_core.specs.Views.{stranger}
 use Rattle.lock_core.specs.SiteStated.{IsNew}
 use Rattle.lock_core.specs.Pasts.{opening}
 use Rattle.lock_core.specs.Sites.{HeardOk, SiteKept, HandOk, taken_at, sent_at, consumed_at}
+use Rattle.lock_core.specs.Types.{CallWords, Rec, Hand}
 use Rattle.lock_core.specs.ViewParts.{each-snoc}
 use Rattle.lock_core.proofs.RowLaws.{none-some, get-front}
 use Rattle.lock_core.proofs.SeatSteps.{stranger-ok}

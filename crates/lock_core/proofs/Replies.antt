@@ -1,22 +1,15 @@
 -- What an object replies, and the words of records and entries.
 use Rattle.std.proofs.Common.{◌≡◌, ◌≢◌, ℕ, ◌/◌, ◌%◌, ◌^◌, ◌<◌, ◌⊎◌, inl, inr, ⊎_elim, Bool, true, ap, subst, List, slice_get, Some, refl, arith}
-use Rattle.word_bits.specs.declared.call.CallWords.{CallWords}
-use Rattle.word_bits.specs.declared.entry.Entry.{Entry}
-use Rattle.word_bits.specs.declared.reply.Errno.{Errno}
-use Rattle.word_bits.specs.declared.reply.Errno.TheVariants.{BadF, NoMem, Exist, Inval, MFile, Fault}
-use Rattle.word_bits.specs.declared.reply.Reply.{Reply}
-use Rattle.word_bits.specs.declared.reply.Reply.TheVariants.{Good, Num, Refused, MapErr, AccErr, Busy, Intr, Sent}
 use Rattle.word_bits.specs.Replies.{errno_number}
 use Rattle.word_bits.specs.EntryWord.{IsEntry, entry_word}
 use Rattle.word_bits.specs.RecWord.{value_of}
 use Rattle.word_bits.specs.Objects.{Obj, IsObjectReply}
 use Rattle.word_bits.specs.Histories.{Plan, state_after}
 use Rattle.word_bits.proofs.States.{state_is_state}
-use Rattle.lock_core.specs.declared.view.Hand.{Hand}
-use Rattle.lock_core.specs.declared.view.Held.TheVariants.{No}
 use Rattle.lock_core.specs.SitePasses.{Accounts}
 use Rattle.lock_core.specs.Records.{row}
 use Rattle.lock_core.specs.Sites.{HasSent, ServedBy, StandsLast}
+use Rattle.lock_core.specs.Types.{CallWords, Entry, Errno, BadF, NoMem, Exist, Inval, MFile, Fault, Reply, Good, Num, Refused, MapErr, AccErr, Busy, Intr, Sent, Hand, No}
 use Rattle.lock_core.specs.Views.{entry_of, owed_of, settled, OwesNoSignal}
 
 errno-small : (e : Errno) → errno_number e < 2 ^ 22

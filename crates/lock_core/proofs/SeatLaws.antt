@@ -5,12 +5,11 @@ use lib.ListN.{get_elem?}
 use Rattle.word_bits.specs.LockWords.{Unavailable}
 use Rattle.word_bits.specs.Objects.{Obj}
 use Rattle.word_bits.specs.Histories.{Plan}
-use Rattle.lock_core.specs.declared.view.Hand.{Hand}
-use Rattle.lock_core.specs.declared.view.Held.TheVariants.{No}
 use Rattle.lock_core.specs.Layout.{SiteWords, lay}
 use Rattle.lock_core.specs.Views.{gave_up}
 use Rattle.lock_core.specs.Sites.{HandGoes, SiteKept, SiteStep}
 use Rattle.lock_core.specs.Laws.Move.{keeps-recs}
+use Rattle.lock_core.specs.Types.{Hand, No}
 use Rattle.lock_core.proofs.LayoutLaws.{lay-lines}
 use Rattle.lock_core.proofs.SeatSteps.{site-ends}
 use Rattle.lock_core.specs.declared.layout.TheConstants.{LINES_AT}

@@ -1,9 +1,5 @@
 -- What a step on the lock's word shows to callers of any lock.
 use Rattle.std.proofs.Common.{◌≡◌, ℕ, ◌+◌, ◌≤◌, Bool, List, refl, ap, ◌∙◌, subst, arith}
-use Rattle.lock_core.specs.declared.view.View.{View}
-use Rattle.lock_core.specs.declared.view.Line.{Line}
-use Rattle.lock_core.specs.declared.view.Moment.{Moment}
-use Rattle.lock_core.specs.declared.view.Held.TheVariants.{No}
 use Rattle.lock_core.specs.Views.{handed}
 use Rattle.lock_core.specs.Holding.{missed}
 use Rattle.lock_core.specs.Pasts.{GoesOn, FoundAt, IsOwnStep}
@@ -11,6 +7,7 @@ use Rattle.lock_core.specs.Laws.SiteRun.{found-at-step, step-by}
 use Rattle.lock_core.specs.Kinds.{Kind, unavailable}
 use Rattle.lock_core.specs.Shown.{IsLatestStep, shown}
 use Rattle.lock_core.specs.Locking.{Sees, Misses}
+use Rattle.lock_core.specs.Types.{View, Line, Moment, No}
 
 same-le : (m n : ℕ) → m ≡ n → n ≤ m
 same-le m n e = omega arith

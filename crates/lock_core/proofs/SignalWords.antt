@@ -5,13 +5,12 @@ use lib.ListN.{get_elem?}
 use Rattle.word_bits.specs.LockWords.{Unavailable}
 use Rattle.word_bits.specs.Objects.{Obj}
 use Rattle.word_bits.specs.Histories.{Plan}
-use Rattle.lock_core.specs.declared.view.Hand.{Hand}
-use Rattle.lock_core.specs.declared.view.Heard.{Heard}
 use Rattle.lock_core.specs.Layout.{SiteWords, lay}
 use Rattle.lock_core.specs.Regions.{part-at}
 use Rattle.lock_core.specs.Views.{sending, hearing, consuming, next_entry}
 use Rattle.lock_core.specs.SitePasses.{IsSignal, IsTaken}
 use Rattle.lock_core.specs.Sites.{SiteKept, SiteStep, sent_at, consumed_at}
+use Rattle.lock_core.specs.Types.{Hand, Heard}
 use Rattle.lock_core.proofs.HandLaws.{not-both}
 use Rattle.lock_core.proofs.SeatLaws.{line-stored}
 use Rattle.lock_core.proofs.Signalling.{sent-small, site-signals, site-hears, site-consumes-heard}

@@ -5,25 +5,19 @@ use mathlib.Core.Option.{some}
 use mathlib.Core.Logic.{dite}
 use native.Mathlib.Decide.{ℕ_discrete}
 use lib.ListN.{get_elem?}
-use Rattle.word_bits.specs.declared.call.CallWords.{CallWords}
-use Rattle.word_bits.specs.declared.entry.Entry.{Entry}
-use Rattle.word_bits.specs.declared.rec.Rec.{Rec}
-use Rattle.word_bits.specs.declared.reply.Reply.TheVariants.{Good, Num, Refused, MapErr, AccErr, Busy, Intr, Sent}
-use Rattle.word_bits.specs.declared.reply.Reply.{Reply}
 use Rattle.lock_core.specs.SitePasses.{Accounts}
 use Rattle.word_bits.specs.Calls.{signal_of}
 use Rattle.word_bits.specs.LockWords.{Unavailable}
 use Rattle.word_bits.specs.Objects.{Obj}
 use Rattle.word_bits.specs.Histories.{Plan, Records}
 use Rattle.word_bits.specs.Legal.{is_intr, signals_to}
-use Rattle.lock_core.specs.declared.view.Hand.{Hand}
-use Rattle.lock_core.specs.declared.view.Heard.{Heard}
 use Rattle.lock_core.specs.Plans.{appended, calls_in}
 use Rattle.lock_core.specs.Layout.{SiteWords}
 use Rattle.lock_core.specs.Records.{bit, row, is_sent, task_sends, sends, intrs}
 use Rattle.lock_core.specs.Views.{sent_after, consumed_after, OwesNoSignal, is_number, consumed_weight, held_of, alone_of, writes_of, owed_of, named_of, sent_of, consumed_of}
 use Rattle.lock_core.specs.Sites.{HeardOk, HandOk, SiteKept, Balances, taken_at, sent_at, consumed_at}
 use Rattle.lock_core.specs.Totals.{total, total-set, total-same}
+use Rattle.lock_core.specs.Types.{CallWords, Entry, Rec, Good, Num, Refused, MapErr, AccErr, Busy, Intr, Sent, Reply, Hand, Heard}
 use Rattle.lock_core.specs.ViewParts.{Each, each-set}
 use Rattle.lock_core.proofs.RowLaws.{none-some, same-some, row-appended, row-beside}
 use Rattle.lock_core.proofs.HandLaws.{consumed-more, tally-same, number-or-not, is_number-here, is_number-else}

@@ -10,12 +10,6 @@ use Rattle.atomic_table.proofs.Lists.{at_map, set_again, set_else}
 use Rattle.word_bits.specs.LockWords.{Unavailable}
 use Rattle.word_bits.specs.Objects.{Obj}
 use Rattle.word_bits.specs.Histories.{Plan}
-use Rattle.lock_core.specs.declared.op.Op.TheVariants.{Load, Store, Exchange, Add}
-use Rattle.lock_core.specs.declared.view.View.{View}
-use Rattle.lock_core.specs.declared.view.Seen.{Seen}
-use Rattle.lock_core.specs.declared.view.Hand.{Hand}
-use Rattle.lock_core.specs.declared.view.SpinHand.{SpinHand}
-use Rattle.lock_core.specs.declared.view.Held.TheVariants.{No}
 use Rattle.lock_core.specs.declared.layout.TheConstants.{LOCK_WORDS}
 use Rattle.lock_core.specs.Layout.{SiteWords, lay, site}
 use Rattle.lock_core.specs.Views.{SpinStays, hand_of, handed, seated, forgot, with_number, ticked, split_off, merged, spent, stranger, gathered}
@@ -23,13 +17,13 @@ use Rattle.lock_core.specs.Sites.{HandGoes, SiteKept, SiteStep}
 use Rattle.lock_core.specs.Moves.{Goes, Lets, KeepsHold, SiteMoveWhere}
 use Rattle.lock_core.specs.Laws.Move.{saw-stays, set-moves, tick-moved, seat-moved, hand-moved, leaves-site}
 use Rattle.lock_core.specs.SitePlays.{Found, PutBy, Begun, Heeded}
-use Rattle.lock_core.specs.declared.view.Moment.{Moment}
 use Rattle.lock_core.specs.Pasts.{ChangesOneWord, KeepsJoined, GoesOn, Instant, instant, view_of, moment, Moves, Lived, Ran, IsMarked, IsOwnStep}
 use Rattle.lock_core.proofs.RowLaws.{same-some}
 use Rattle.lock_core.proofs.Living.{older, goes-on, grown, lived-after, own-step, own-marks}
 use Rattle.lock_core.proofs.Steps.{loads, stores, exchanges, modifies}
 use Rattle.word_bits.specs.declared.TheConstants.{MAX_TASKS}
 use Rattle.lock_core.specs.Stored.{LivedStored}
+use Rattle.lock_core.specs.Types.{Load, Store, Exchange, Add, View, Seen, Hand, SpinHand, No, Moment}
 use Rattle.lock_core.proofs.Storing.{allows-stored, stored-first}
 use Rattle.lock_core.proofs.SeatSteps.{site-splits, site-gathers, site-leaves}
 

@@ -3,14 +3,7 @@ use Rattle.std.proofs.Common.{◌≡◌, ◌≢◌, ◌∙◌, true, false, ℕ,
 use Rattle.atomic_table.specs.Table.{Me}
 use Rattle.atomic_table.specs.Seated.{TableId}
 use Rattle.word_bits.specs.declared.TheConstants.{MAX_TASKS}
-use Rattle.word_bits.specs.declared.entry.Entry.{Entry}
 use Rattle.word_bits.specs.Histories.{Plan}
-use Rattle.lock_core.specs.declared.view.Seen.{Seen}
-use Rattle.lock_core.specs.declared.view.View.{View}
-use Rattle.lock_core.specs.declared.view.Hand.{Hand}
-use Rattle.lock_core.specs.declared.view.Saw.{Saw}
-use Rattle.lock_core.specs.declared.view.Held.{Held}
-use Rattle.lock_core.specs.declared.view.Held.TheVariants.{No, Alone}
 use Rattle.lock_core.specs.declared.pass.Face.{Face}
 use Rattle.lock_core.specs.declared.pass.Pass.{Pass}
 use Rattle.lock_core.specs.declared.site.Site.{Site}
@@ -21,6 +14,7 @@ use Rattle.lock_core.specs.SiteHandles.{IsLatest, KeepsPast, SitsAt, StepsAt}
 use Rattle.lock_core.specs.SitePasses.{Sits}
 use Rattle.lock_core.specs.Views.{took}
 use Rattle.lock_core.specs.Holding.{released}
+use Rattle.lock_core.specs.Types.{Entry, Seen, View, Hand, Saw, Held, No, Alone}
 use Rattle.lock_core.proofs.HandLaws.{no-alone, not-both}
 
 pub some-number : (task : Option ℕ) → IsSome task → (t : ℕ) × (task ≡ Some t)

@@ -1,18 +1,15 @@
 -- The rule that is kept implies the one that is stated.
 use Rattle.std.proofs.Common.{◌≡◌, ℕ, zero, suc, ◌+◌, ◌-◌, ◌<◌, inl, inr, false, List, [], ◌∷◌, length, slice_get, Some, sym, refl, ap, ◌∙◌, arith}
-use Rattle.word_bits.specs.declared.entry.Entry.{Entry}
 use Rattle.word_bits.specs.LockWords.{Unavailable}
 use Rattle.word_bits.specs.Objects.{Obj}
 use Rattle.word_bits.specs.Histories.{Plan}
-use Rattle.lock_core.specs.declared.view.Hand.{Hand}
-use Rattle.lock_core.specs.declared.view.Stage.{Stage}
-use Rattle.lock_core.specs.declared.view.Stage.TheVariants.{Rest, Entered, Logged}
 use Rattle.lock_core.specs.Layout.{SiteWords}
 use Rattle.lock_core.specs.Records.{bit}
 use Rattle.lock_core.specs.Views.{owed_weight, owed_of, writes_of}
 use Rattle.lock_core.specs.Sites.{SiteKept}
 use Rattle.lock_core.specs.SiteStated.{IsSite}
 use Rattle.lock_core.specs.Totals.{total}
+use Rattle.lock_core.specs.Types.{Entry, Hand, Stage, Rest, Entered, Logged}
 use Rattle.lock_core.specs.ViewParts.{Each}
 use Rattle.lock_core.proofs.RowLaws.{same-some, some-inside}
 use Rattle.lock_core.proofs.WordSteps.{some-of, owed-one, others-free}

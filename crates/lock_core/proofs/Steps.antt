@@ -7,14 +7,10 @@ use lib.ListN.{get_elem?}
 use lib.Seq.{set-get_or}
 use Rattle.atomic_table.specs.Table.{State, Step, Me, keeps, step, Allows}
 use Rattle.atomic_table.proofs.Lists.{at_map}
-use Rattle.lock_core.specs.declared.op.Op.TheVariants.{Load, Store, Exchange}
-use Rattle.lock_core.specs.declared.op.Op.{Op}
-use Rattle.lock_core.specs.declared.view.View.{View}
-use Rattle.lock_core.specs.declared.view.Seen.{Seen}
 use Rattle.lock_core.specs.Ops.{word_after, first_of, second_of, told_by}
 use Rattle.lock_core.specs.Moves.{Goes, Lets}
-use Rattle.lock_core.specs.declared.view.Moment.{Moment}
 use Rattle.lock_core.specs.Pasts.{GoesOn, IsOwnStep, Lived, view_of, unseen, instant, moment, FoundAt}
+use Rattle.lock_core.specs.Types.{Load, Store, Exchange, Op, View, Seen, Moment}
 use Rattle.lock_core.proofs.Living.{older, goes-on, grown, lived-after, own-step}
 
 module _ {E : Type 0} (holds : List ℕ → List (View E) → Type 0) (moves : ℕ → List ℕ → List (View E) → List ℕ → List (View E) → Type 0) where

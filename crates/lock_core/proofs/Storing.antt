@@ -7,9 +7,6 @@ use Rattle.atomic_table.specs.Table.{State, Me, Allows, carried_after}
 use Rattle.word_bits.specs.declared.TheConstants.{MAX_TASKS}
 use Rattle.word_bits.specs.Histories.{Plan}
 use Rattle.lock_core.specs.declared.layout.TheConstants.{SPIN_WORDS, LOCK_WORDS}
-use Rattle.lock_core.specs.declared.view.View.{View}
-use Rattle.lock_core.specs.declared.view.Seen.{Seen}
-use Rattle.lock_core.specs.declared.view.Moment.{Moment}
 use Rattle.lock_core.specs.Plans.{call_words}
 use Rattle.lock_core.specs.Layout.{calls_at, width, fresh}
 use Rattle.lock_core.specs.Stores.{HasWord, IsMoved, IsStoredAt, Stores, left_out, lock_room, memory_width, new_memory, row_at, row_room, spin_room}
@@ -17,7 +14,7 @@ use Rattle.lock_core.specs.Stored.{LivedStored}
 use Rattle.lock_core.specs.Pasts.{GoesOn, IsOwnStep, Lived, FoundAt, unseen}
 use Rattle.lock_core.specs.Moves.{Lets}
 use Rattle.lock_core.specs.Ops.{word_after}
-use Rattle.lock_core.specs.declared.op.Op.{Op}
+use Rattle.lock_core.specs.Types.{View, Seen, Moment, Op}
 use Rattle.lock_core.proofs.Steps.{allows, allows-found}
 use Rattle.lock_core.proofs.Opening.{fresh-free, length-call_words, zero-in, length-fresh}
 

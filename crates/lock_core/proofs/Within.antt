@@ -1,18 +1,12 @@
 -- What a part of a call shows is shown by the whole.
 use Rattle.std.proofs.Common.{◌≡◌, ℕ, ◌+◌, ◌≤◌, Bool, true, false, List, Option, refl, ap, ◌∙◌, arith}
 use Rattle.std.specs.Prelude.{Result, Ok, Err, IfErr, if◌then◌else◌}
-use Rattle.lock_core.specs.declared.how.How.{How}
-use Rattle.lock_core.specs.declared.how.Interrupted.{Interrupted}
-use Rattle.lock_core.specs.declared.view.Hand.{Hand}
-use Rattle.lock_core.specs.declared.view.Held.TheVariants.{No}
-use Rattle.lock_core.specs.declared.view.Line.{Line}
-use Rattle.lock_core.specs.declared.view.Moment.{Moment}
-use Rattle.lock_core.specs.declared.tally.Tally.{Tally}
 use Rattle.lock_core.specs.Tallies.{answered, left, raised, stood_in_list, was_interrupted}
 use Rattle.lock_core.specs.Kinds.{Kind}
 use Rattle.lock_core.specs.Locking.{Interrupts, Keeps, Misses, OnlyTried, SawPending, Sees, TalliesLock, TalliesSpin}
 use Rattle.lock_core.specs.Pasts.{FoundAtStep, FoundSince, GoesOn}
 use Rattle.lock_core.specs.Shown.{FindsSince, NoCountFalls, PastGoesOn, Shown}
+use Rattle.lock_core.specs.Types.{How, Interrupted, Hand, No, Line, Moment, Tally}
 
 -- what a step of a stretch found is found also of a stretch that holds it
 abbrev pub found-within : {task task' : Option ℕ} {step at n : ℕ} {p q r s : List Moment} → task' ≡ task → GoesOn p q → GoesOn r s → FoundAtStep task' step at n q r → FoundAtStep task step at n p s

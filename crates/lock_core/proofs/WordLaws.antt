@@ -3,17 +3,11 @@ use Rattle.std.proofs.Common.{◌≡◌, ◌≢◌, ℕ, zero, suc, ◌+◌, ◌
 use Rattle.std.proofs.lemmas.List.{take-set-le, get_or-take}
 use mathlib.Core.Option.{some}
 use lib.ListN.{get_elem?}
-use Rattle.word_bits.specs.declared.call.CallWords.{CallWords}
-use Rattle.word_bits.specs.declared.entry.Entry.{Entry}
-use Rattle.word_bits.specs.declared.rec.Rec.{Rec}
 use Rattle.word_bits.specs.EntryWord.{entry_word}
 use Rattle.word_bits.specs.RecWord.{rec_word}
 use Rattle.word_bits.specs.LockWords.{Unavailable}
 use Rattle.word_bits.specs.Objects.{Obj}
 use Rattle.word_bits.specs.Histories.{Plan, state_after}
-use Rattle.lock_core.specs.declared.view.Hand.{Hand}
-use Rattle.lock_core.specs.declared.view.Held.TheVariants.{No, Alone}
-use Rattle.lock_core.specs.declared.view.Stage.TheVariants.{Rest, Entered}
 use Rattle.lock_core.specs.Plans.{calls_in, start}
 use Rattle.lock_core.specs.Layout.{SiteWords, lay, recs_at}
 use Rattle.lock_core.specs.Records.{row}
@@ -23,6 +17,7 @@ use Rattle.lock_core.specs.Laws.Move.{keeps-recs}
 use Rattle.lock_core.specs.SitePasses.{IsLength, IsEntryAt, MayRecord}
 use Rattle.lock_core.proofs.LayoutLaws.{lay-guarded, lay-len, lay-entries, lay-recs}
 use Rattle.lock_core.specs.Regions.{part-at}
+use Rattle.lock_core.specs.Types.{CallWords, Entry, Rec, Hand, No, Alone, Rest, Entered}
 use Rattle.lock_core.proofs.RowLaws.{none-some, same-some, some-inside, start-below, rec_words-at, task_recs-none}
 use Rattle.lock_core.proofs.HandLaws.{alone-is-held}
 use Rattle.lock_core.proofs.Numbering.{next-short}

@@ -3,18 +3,11 @@ use Rattle.std.specs.Prelude.{◌≡◌, ℕ, ◌+◌, ◌<◌, ◌≤◌, Bool,
 use Rattle.word_bits.specs.declared.TheConstants.{MAX_TASKS}
 use mathlib.Core.Option.{some}
 use lib.ListN.{get_elem?}
-use Rattle.word_bits.specs.declared.call.CallWords.{CallWords}
-use Rattle.word_bits.specs.declared.rec.Rec.{Rec}
-use Rattle.word_bits.specs.declared.reply.Reply.{Reply}
-use Rattle.word_bits.specs.declared.reply.Reply.TheVariants.{Busy, Intr, Sent}
 use Rattle.word_bits.specs.Calls.{signal_of}
 use Rattle.word_bits.specs.RecWord.{IsRec, rec_word}
 use Rattle.word_bits.specs.LockWords.{Unavailable}
 use Rattle.word_bits.specs.Objects.{Obj}
 use Rattle.word_bits.specs.Histories.{Plan}
-use Rattle.lock_core.specs.declared.view.Hand.{Hand}
-use Rattle.lock_core.specs.declared.view.Held.TheVariants.{No}
-use Rattle.lock_core.specs.declared.view.Moment.{Moment}
 use Rattle.lock_core.specs.Layout.{site}
 use Rattle.lock_core.specs.Locked.{IsSiteStepWhere}
 use Rattle.lock_core.specs.Orders.{record_in}
@@ -22,6 +15,7 @@ use Rattle.lock_core.specs.Pasts.{BeganWith, EachMoment, Paced, Tail}
 use Rattle.lock_core.specs.Records.{row}
 use Rattle.lock_core.specs.Sites.{consumed_at, sent_at}
 use Rattle.lock_core.specs.SiteStated.{IsNew, IsSiteThen}
+use Rattle.lock_core.specs.Types.{CallWords, Rec, Reply, Busy, Intr, Sent, Hand, No, Moment}
 
 -- A step of this past, from the first moment to the second, that was made while this call was the task's next on the object: the pass that made it had the task's number, and had recorded just so many
 -- of the task's calls. It has this hand before and this one after. Of calls on other objects this says nothing.

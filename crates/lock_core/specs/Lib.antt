@@ -1,3 +1,4 @@
+pub mod Types
 pub mod Plans
 pub mod Layout
 pub mod Stores

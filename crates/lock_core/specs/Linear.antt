@@ -2,22 +2,15 @@
 use Rattle.std.specs.Prelude.{◌≡◌, ◌≢◌, ℕ, ◌+◌, ◌⊎◌, not, false, List, [], ◌∷◌, length, map, take, slice_get, slice_index, slice_set, Some}
 use mathlib.Core.Option.{some}
 use lib.ListN.{get_elem?}
-use Rattle.word_bits.specs.declared.call.CallWords.{CallWords}
-use Rattle.word_bits.specs.declared.entry.Entry.{Entry}
-use Rattle.word_bits.specs.declared.rec.Rec.{Rec}
-use Rattle.word_bits.specs.declared.reply.Reply.{Reply}
-use Rattle.word_bits.specs.declared.reply.Reply.TheVariants.{Busy, Intr, Sent}
 use Rattle.word_bits.specs.EntryWord.{IsEntry, entry_word}
 use Rattle.word_bits.specs.RecWord.{IsRec, rec_word}
 use Rattle.word_bits.specs.Objects.{Obj}
 use Rattle.word_bits.specs.Histories.{Plan, state_after}
-use Rattle.lock_core.specs.declared.view.Hand.{Hand}
-use Rattle.lock_core.specs.declared.view.Held.TheVariants.{No, Alone}
-use Rattle.lock_core.specs.declared.view.Moment.{Moment}
 use Rattle.lock_core.specs.Plans.{start}
 use Rattle.lock_core.specs.Layout.{SiteWords, site}
 use Rattle.lock_core.specs.Records.{bit, row}
 use Rattle.lock_core.specs.Totals.{total}
+use Rattle.lock_core.specs.Types.{CallWords, Entry, Rec, Reply, Busy, Intr, Sent, Hand, No, Alone, Moment}
 use Rattle.lock_core.specs.Views.{owed_of}
 use Rattle.lock_core.specs.ViewParts.{Each}
 

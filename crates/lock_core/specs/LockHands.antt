@@ -1,13 +1,9 @@
 -- What a pass has to do with each of the spin locks of its table.
 use Rattle.std.proofs.Common.{◌≡◌, ◌≢◌, ℕ, zero, suc, ◌+◌, List, [], ◌∷◌, refl, ap, ◌∙◌, arith}
-use Rattle.lock_core.specs.declared.view.LockHand.{LockHand}
-use Rattle.lock_core.specs.declared.view.Frame.{Frame}
-use Rattle.lock_core.specs.declared.view.Point.{Point}
-use Rattle.lock_core.specs.declared.view.Point.TheVariants.{Out, Holding}
-use Rattle.lock_core.specs.declared.view.SpinHand.{SpinHand}
 use Rattle.lock_core.specs.Records.{bit}
 use Rattle.lock_core.specs.SpinFrames.{uses}
 use Rattle.lock_core.specs.Totals.{total}
+use Rattle.lock_core.specs.Types.{LockHand, Frame, Point, Out, Holding, SpinHand}
 use Rattle.lock_core.specs.Views.{no_frame}
 
 -- at this lock it was never

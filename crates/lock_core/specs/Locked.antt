@@ -4,11 +4,6 @@ use mathlib.Core.Option.{some}
 use lib.ListN.{get_elem?}
 use Rattle.word_bits.specs.Objects.{Obj}
 use Rattle.word_bits.specs.Histories.{Plan}
-use Rattle.lock_core.specs.declared.view.Hand.{Hand}
-use Rattle.lock_core.specs.declared.view.SpinHand.{SpinHand}
-use Rattle.lock_core.specs.declared.view.Held.{Held}
-use Rattle.lock_core.specs.declared.view.Held.TheVariants.{No, Shared, Alone}
-use Rattle.lock_core.specs.declared.view.Moment.{Moment}
 use Rattle.lock_core.specs.Layout.{site}
 use Rattle.lock_core.specs.ViewParts.{Each}
 use Rattle.lock_core.specs.Pasts.{ChangesOneWord}
@@ -18,6 +13,7 @@ use Rattle.lock_core.specs.Totals.{total}
 use Rattle.lock_core.specs.Views.{SpinRests, alone_of, stranger, no_spin}
 use Rattle.lock_core.specs.Spins.{holds_in}
 use Rattle.lock_core.specs.Kinds.{Kind, mutex, semaphore, unavailable}
+use Rattle.lock_core.specs.Types.{Hand, SpinHand, Held, No, Shared, Alone, Moment}
 
 -- no pass holds the wait lock
 abbrev pub IsWaitLockFree : List SpinHand → Type 0

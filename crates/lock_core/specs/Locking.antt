@@ -1,20 +1,13 @@
 -- What each call of a lock does to its pass, whatever the lock is.
 use Rattle.std.specs.Prelude.{◌≡◌, ℕ, ◌+◌, ◌<◌, ◌≤◌, ◌⊎◌, Bool, true, false, List, length, take, Result, Some, if◌then◌else◌}
-use Rattle.word_bits.specs.declared.entry.Entry.{Entry}
 use Rattle.word_bits.specs.Objects.{Obj}
 use Rattle.word_bits.specs.Histories.{Plan, state_after}
-use Rattle.lock_core.specs.declared.view.Hand.{Hand}
-use Rattle.lock_core.specs.declared.view.Saw.{Saw}
-use Rattle.lock_core.specs.declared.view.Held.{Held}
-use Rattle.lock_core.specs.declared.view.Held.TheVariants.{No, Alone}
-use Rattle.lock_core.specs.declared.how.How.{How}
-use Rattle.lock_core.specs.declared.how.How.TheVariants.{Fast, Spun, Slept}
-use Rattle.lock_core.specs.declared.how.Interrupted.{Interrupted}
 use Rattle.lock_core.specs.Records.{bit}
 use Rattle.lock_core.specs.Sites.{sent_place, consumed_place}
 use Rattle.lock_core.specs.Tallies.{left, raised, stood_in_list, was_interrupted}
 use Rattle.lock_core.specs.Shown.{Shown, NoCountFalls, AllButHand, FindsAtStep, FindsSince, LeavesHold}
 use Rattle.lock_core.specs.Kinds.{Kind, shares, unavailable, tries, lets_in, wakes_down}
+use Rattle.lock_core.specs.Types.{Entry, Hand, Saw, Held, No, Alone, How, Fast, Spun, Slept, Interrupted}
 
 -- it only looked: all is as before but for the number of its steps
 abbrev pub Looks : Shown → Shown → Type 0

@@ -1,11 +1,9 @@
 -- What a pass notes of itself at the spin locks of its table.
 use Rattle.std.specs.Prelude.{◌≡◌, ◌≢◌, ℕ, ◌+◌, ◌*◌, ◌<◌, Bool, true, false, replicate, slice_index_or}
-use Rattle.lock_core.specs.declared.view.Point.{Point}
-use Rattle.lock_core.specs.declared.view.Point.TheVariants.{Out, Pending, Trying, Waiting, Head, Passing, Holding}
-use Rattle.lock_core.specs.declared.view.SpinHand.{SpinHand}
 use Rattle.lock_core.specs.declared.pass.Nesting.{Nesting}
 use Rattle.lock_core.specs.Records.{bit}
 use Rattle.lock_core.specs.LockHands.{point_at, depth_of}
+use Rattle.lock_core.specs.Types.{Point, Out, Pending, Trying, Waiting, Head, Passing, Holding, SpinHand}
 
 -- the pass holds the lock
 abbrev pub is_held : Point → Bool

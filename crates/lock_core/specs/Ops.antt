@@ -1,7 +1,6 @@
 -- What one step does to a word of 64 bits. What a step of a table asks is stated by it.
 use Rattle.std.specs.Prelude.{ℕ, ◌+◌, ◌-◌, ◌%◌, ◌^◌, ◌==◌, if◌then◌else◌, bit_and, bit_or}
-use Rattle.lock_core.specs.declared.op.Op.{Op}
-use Rattle.lock_core.specs.declared.op.Op.TheVariants.{Load, Store, Swap, Add, Sub, Or, And, Exchange}
+use Rattle.lock_core.specs.Types.{Op, Load, Store, Swap, Add, Sub, Or, And, Exchange}
 
 -- the word after the step, of the word before it
 abbrev pub word_after : Op → ℕ → ℕ

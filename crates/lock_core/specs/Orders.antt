@@ -1,17 +1,15 @@
 -- In what order the calls on an object stand.
 use Rattle.std.specs.Prelude.{◌≡◌, ℕ, ◌+◌, ◌≤◌, List, [], ◌∷◌, drop, slice_get, slice_index, Some}
-use Rattle.word_bits.specs.declared.call.CallWords.{CallWords}
-use Rattle.word_bits.specs.declared.rec.Rec.{Rec}
 use Rattle.word_bits.specs.RecWord.{IsRec, rec_word}
 use Rattle.word_bits.specs.Objects.{Obj, IsObjectReply}
 use Rattle.word_bits.specs.Histories.{Plan, changes}
-use Rattle.lock_core.specs.declared.view.Moment.{Moment}
 use Rattle.lock_core.specs.Plans.{start}
 use Rattle.lock_core.specs.Layout.{site}
 use Rattle.lock_core.specs.Linear.{IsLinearizable}
 use Rattle.lock_core.specs.Pasts.{Tail}
 use Rattle.lock_core.specs.Records.{bit, row}
 use Rattle.lock_core.specs.SiteStated.{IsNew}
+use Rattle.lock_core.specs.Types.{CallWords, Rec, Moment}
 
 -- the word of a call's record
 abbrev pub record_in : Plan → Moment → (task call : ℕ) → ℕ

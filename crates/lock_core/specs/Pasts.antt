@@ -4,15 +4,8 @@ use mathlib.Core.Option.{some}
 use lib.ListN.{get_elem?}
 use Rattle.atomic_table.specs.Table.{Me}
 use Rattle.word_bits.specs.Histories.{Plan}
-use Rattle.lock_core.specs.declared.view.View.{View}
-use Rattle.lock_core.specs.declared.view.Hand.{Hand}
-use Rattle.lock_core.specs.declared.view.Marks.{Marks}
-use Rattle.lock_core.specs.declared.view.Moment.{Moment}
-use Rattle.lock_core.specs.declared.view.Past.{Past}
-use Rattle.lock_core.specs.declared.view.Seen.{Seen}
-use Rattle.lock_core.specs.declared.op.Op.{Op}
-use Rattle.lock_core.specs.declared.op.Op.TheVariants.{Load, Store, Swap, Add, Sub, Or, And, Exchange}
 use Rattle.lock_core.specs.Layout.{fresh}
+use Rattle.lock_core.specs.Types.{View, Hand, Marks, Moment, Past, Seen, Op, Load, Store, Swap, Add, Sub, Or, And, Exchange}
 use Rattle.lock_core.specs.Views.{hand_of, spin_of, first}
 use Rattle.lock_core.specs.ViewParts.{Each}
 

@@ -1,8 +1,6 @@
 -- What a pass has heard of signals to its task.
 use Rattle.std.specs.Prelude.{◌≡◌, ◌+◌, ◌<◌, Some}
-use Rattle.lock_core.specs.declared.how.Interrupted.{Interrupted}
-use Rattle.lock_core.specs.declared.view.Hand.{Hand}
-use Rattle.lock_core.specs.declared.view.View.{View}
+use Rattle.lock_core.specs.Types.{Interrupted, Hand, View}
 use Rattle.lock_core.specs.Views.{hearing}
 
 -- two loads, which are all that came between the two views, found that so many were sent, and so many consumed

@@ -3,22 +3,11 @@ use Rattle.std.specs.Prelude.{◌≡◌, ℕ, ◌+◌, ◌<◌, ◌≤◌, Bool,
 use mathlib.Core.Option.{none, some}
 use lib.ListN.{get_elem?}
 use Rattle.atomic_table.specs.Table.{Step, step}
-use Rattle.word_bits.specs.declared.call.CallWords.{CallWords}
-use Rattle.word_bits.specs.declared.entry.Entry.{Entry}
-use Rattle.word_bits.specs.declared.rec.Rec.{Rec}
-use Rattle.word_bits.specs.declared.reply.Reply.{Reply}
 use Rattle.word_bits.specs.LockWords.{Unavailable}
 use Rattle.word_bits.specs.Objects.{Obj}
 use Rattle.word_bits.specs.Histories.{Plan}
-use Rattle.lock_core.specs.declared.view.View.{View}
-use Rattle.lock_core.specs.declared.view.Hand.{Hand}
-use Rattle.lock_core.specs.declared.view.Held.{Held}
-use Rattle.lock_core.specs.declared.view.Moment.{Moment}
-use Rattle.lock_core.specs.declared.view.Past.{Past}
 use Rattle.lock_core.specs.declared.pass.Pass.{Pass}
 use Rattle.lock_core.specs.declared.site.Site.{Site}
-use Rattle.lock_core.specs.declared.op.Op.{Op}
-use Rattle.lock_core.specs.declared.how.Interrupted.{Interrupted}
 use Rattle.lock_core.specs.Sites.{SiteKept, SiteStep, sent_place, consumed_place}
 use Rattle.lock_core.specs.Ops.{first_of, second_of}
 use Rattle.lock_core.specs.Moves.{Lets, KeepsHold}
@@ -30,6 +19,7 @@ use Rattle.lock_core.specs.Layout.{lay}
 use Rattle.lock_core.specs.declared.pass.Nesting.{Nesting}
 use Rattle.lock_core.specs.Nestings.{Tells, SameFlags, SameFlagsBeside, notes_held, notes_wait, no_nesting}
 use Rattle.lock_core.specs.LockHands.{depth_of}
+use Rattle.lock_core.specs.Types.{CallWords, Entry, Rec, Reply, View, Hand, Held, Moment, Past, Op, Interrupted}
 
 module _ {R O E C : Type 0} where
   -- the calls that the site's tasks make
@@ -144,13 +134,13 @@ module _ {R O E C : Type 0} where
   abbrev pub KeepsPast : Pass R O E C → Pass R O E C → Type 0
   KeepsPast old new = GoesOn (past_of old) (past_of new)
 
-  -- it made steps at the site: it is one of the site's, and its past goes on, up to its own last step
+  -- it is one of the site's, and its past goes on. The past ends at its own last step, which may lie before the call.
   pub record StepsAt (site : Site R O E C) (old new : Pass R O E C) : Type 0 where
     pub own : SitsAt site new
     pub goes_on : KeepsPast old new
     pub last : IsLatest new
 
-  -- it made some steps at the site or none, and has the number that it had
+  -- it is one of the site's, and keeps its number. Its past goes on, and its count of steps doesn't fall: it may have made none.
   pub record MovesOn (site : Site R O E C) (old new : Pass R O E C) : Type 0 where
     pub own : SitsAt site new
     pub task : task_in new ≡ task_in old

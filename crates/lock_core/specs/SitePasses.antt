@@ -1,34 +1,21 @@
 -- A pass with its seat.
 use Rattle.std.specs.Prelude.{◌≡◌, ◌≢◌, ℕ, zero, suc, ◌+◌, ◌*◌, ◌<◌, ◌≤◌, ◌⊎◌, Bool, true, false, List, [], length, take, slice_get, Some, None}
-use Rattle.word_bits.specs.declared.call.CallWords.{CallWords}
-use Rattle.word_bits.specs.declared.entry.Entry.{Entry}
-use Rattle.word_bits.specs.declared.rec.Rec.{Rec}
 use Rattle.word_bits.specs.RecWord.{IsRec, rec_word}
 use Rattle.word_bits.specs.LockWords.{Unavailable}
 use Rattle.word_bits.specs.Objects.{Obj}
-use Rattle.word_bits.specs.declared.reply.Reply.{Reply}
-use Rattle.word_bits.specs.declared.reply.Reply.TheVariants.{Busy, Intr, Sent}
-use Rattle.word_bits.specs.declared.call.Mode.TheVariants.{Int, Try}
 use Rattle.word_bits.specs.Calls.{mode_of, signal_of}
 use Rattle.word_bits.specs.Histories.{Plan, state_after, logs}
 use Rattle.word_bits.specs.Legal.{IsRecord, seen_after}
 use Rattle.atomic_table.specs.Table.{Me}
 use Rattle.atomic_table.specs.Seated.{TableId}
-use Rattle.lock_core.specs.declared.view.Seen.{Seen}
-use Rattle.lock_core.specs.declared.view.Saw.{Saw}
-use Rattle.lock_core.specs.declared.view.Heard.{Heard}
-use Rattle.lock_core.specs.declared.view.View.{View}
-use Rattle.lock_core.specs.declared.how.Interrupted.{Interrupted}
 use Rattle.lock_core.specs.declared.pass.Face.{Face}
-use Rattle.lock_core.specs.declared.view.Hand.{Hand}
-use Rattle.lock_core.specs.declared.view.Held.TheVariants.{No, Alone}
-use Rattle.lock_core.specs.declared.view.Stage.TheVariants.{Rest, Logged}
 use Rattle.lock_core.specs.declared.layout.TheConstants.{ENTRIES_AT, LINES_AT}
 use Rattle.word_bits.specs.EntryWord.{entry_word}
 use Rattle.lock_core.specs.Sites.{SawSince, ServedBy, WasInterrupted, consumed_at}
 use Rattle.lock_core.specs.Plans.{calls_in, start}
 use Rattle.lock_core.specs.Layout.{recs_at, calls_at}
 use Rattle.lock_core.specs.Records.{row, seen_by, AreNext}
+use Rattle.lock_core.specs.Types.{CallWords, Entry, Rec, Reply, Busy, Intr, Sent, Int, Try, Seen, Saw, Heard, View, Interrupted, Hand, No, Alone, Rest, Logged}
 use Rattle.lock_core.specs.Views.{front, became, quieted, hearing, consuming, longer, owed_of, Knows, KnowsFirst, OwesNoSignal, handed}
 
 -- the seat is one of the table's, and the pass says of itself what the view does

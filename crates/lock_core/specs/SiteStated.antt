@@ -3,17 +3,10 @@ use Rattle.std.specs.Prelude.{◌≡◌, ◌≢◌, ℕ, ◌+◌, ◌<◌, ◌�
 use Rattle.word_bits.specs.declared.TheConstants.{MAX_TASKS}
 use mathlib.Core.Option.{some}
 use lib.ListN.{get_elem?}
-use Rattle.word_bits.specs.declared.entry.Entry.{Entry}
-use Rattle.word_bits.specs.declared.rec.Rec.{Rec}
 use Rattle.word_bits.specs.EntryWord.{entry_word}
 use Rattle.word_bits.specs.LockWords.{Unavailable}
 use Rattle.word_bits.specs.Objects.{Obj}
 use Rattle.word_bits.specs.Histories.{Plan, Records, state_after}
-use Rattle.lock_core.specs.declared.view.Hand.{Hand}
-use Rattle.lock_core.specs.declared.view.Saw.{Saw}
-use Rattle.lock_core.specs.declared.view.Held.TheVariants.{No, Alone}
-use Rattle.lock_core.specs.declared.view.Stage.TheVariants.{Logged}
-use Rattle.lock_core.specs.declared.view.Moment.{Moment}
 use Rattle.lock_core.specs.declared.layout.TheConstants.{LOCK_WORDS}
 use Rattle.lock_core.specs.Plans.{calls_in, call_words}
 use Rattle.lock_core.specs.Layout.{SiteWords, site}
@@ -23,6 +16,7 @@ use Rattle.lock_core.specs.Sites.{HasPlan, taken_at, sent_at, consumed_at}
 use Rattle.lock_core.specs.Moves.{SiteMoveWhere}
 use Rattle.lock_core.specs.Pasts.{ChangesOneWord, Instant}
 use Rattle.lock_core.specs.Totals.{total}
+use Rattle.lock_core.specs.Types.{Entry, Rec, Hand, Saw, No, Alone, Logged, Moment}
 use Rattle.lock_core.specs.ViewParts.{Each}
 
 -- the pass's next step records the entry, which is the log's last one

@@ -2,9 +2,7 @@
 use Rattle.std.specs.Prelude.{ℕ, ◌+◌, ◌==◌, Bool, true, false, List}
 use Rattle.lock_core.specs.Records.{bit}
 use Rattle.lock_core.specs.Totals.{total}
-use Rattle.lock_core.specs.declared.view.Frame.{Frame}
-use Rattle.lock_core.specs.declared.view.Point.{Point}
-use Rattle.lock_core.specs.declared.view.Point.TheVariants.{Undoing, Pending, Taking, Clearing, Cleared, Linking, Waiting, Head, Ready, Passing, Holding}
+use Rattle.lock_core.specs.Types.{Frame, Point, Undoing, Pending, Taking, Clearing, Cleared, Linking, Waiting, Head, Ready, Passing, Holding}
 
 -- the number, or 0 where the test fails
 abbrev pub when : Bool → ℕ → ℕ

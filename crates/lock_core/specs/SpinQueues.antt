@@ -4,10 +4,8 @@ use mathlib.Core.Option.{some}
 use lib.ListN.{get_elem?}
 use Rattle.lock_core.specs.ViewParts.{Each}
 use Rattle.lock_core.specs.Totals.{total}
-use Rattle.lock_core.specs.declared.view.Frame.{Frame}
-use Rattle.lock_core.specs.declared.view.Point.{Point}
-use Rattle.lock_core.specs.declared.view.Point.TheVariants.{Clearing, Cleared, Linking, Waiting, Head, Ready, Passing}
 use Rattle.lock_core.specs.SpinFrames.{Counts, counts, code_is, stands_as, uses_as}
+use Rattle.lock_core.specs.Types.{Frame, Point, Clearing, Cleared, Linking, Waiting, Head, Ready, Passing}
 
 -- what a node's code counts for in the word
 abbrev pub tail_unit : ℕ

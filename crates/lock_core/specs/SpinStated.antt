@@ -2,14 +2,7 @@
 use Rattle.std.specs.Prelude.{◌≡◌, ◌≢◌, ℕ, suc, ◌+◌, ◌*◌, ◌==◌, ◌<◌, ◌≤◌, ◌⊎◌, List, [], ◌∷◌, map, reverse, true, Some}
 use mathlib.Core.Option.{some}
 use lib.ListN.{get_elem?}
-use Rattle.word_bits.specs.declared.spin.Spin.{Spin}
 use Rattle.word_bits.specs.SpinWord.{IsSpin, spin_word}
-use Rattle.lock_core.specs.declared.view.Hand.{Hand}
-use Rattle.lock_core.specs.declared.view.Frame.{Frame}
-use Rattle.lock_core.specs.declared.view.SpinHand.{SpinHand}
-use Rattle.lock_core.specs.declared.view.View.{View}
-use Rattle.lock_core.specs.declared.view.Moment.{Moment}
-use Rattle.lock_core.specs.declared.view.Point.TheVariants.{Linking}
 use Rattle.lock_core.specs.declared.layout.TheConstants.{SPIN_WORDS}
 use Rattle.lock_core.specs.Layout.{part}
 use Rattle.lock_core.specs.Totals.{total}
@@ -19,6 +12,7 @@ use Rattle.lock_core.specs.Views.{SpinPart, spin_part}
 use Rattle.lock_core.specs.LockHands.{frame_at, point_at, depth_of, RestsAt}
 use Rattle.lock_core.specs.Spins.{byte_in, pending_in, tail_in, word_in, next_in, locked_in, frame_on, node_code, OwnNodes, TakesFrom, ComesTo, LeavesBy, SpinGoes, SpinLeaves, SpinStep}
 use Rattle.lock_core.specs.Pasts.{Instant}
+use Rattle.lock_core.specs.Types.{Spin, Hand, Frame, SpinHand, View, Moment, Linking}
 
 -- it owns the pending bit
 abbrev pub owns_of : Frame → ℕ

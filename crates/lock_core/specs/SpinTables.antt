@@ -5,9 +5,6 @@ use mathlib.Core.Option.{some}
 use lib.ListN.{get_elem?}
 use Rattle.atomic_table.proofs.Lists.{at_map}
 use Rattle.word_bits.specs.Histories.{Plan}
-use Rattle.lock_core.specs.declared.view.View.{View}
-use Rattle.lock_core.specs.declared.view.Hand.{Hand}
-use Rattle.lock_core.specs.declared.view.SpinHand.{SpinHand}
 use Rattle.lock_core.specs.declared.layout.TheConstants.{LOCK_WORDS, SPIN_WORDS}
 use Rattle.lock_core.specs.Nothings.{nothing, never}
 use Rattle.lock_core.specs.LockHands.{RestsEverywhere}
@@ -20,6 +17,7 @@ use Rattle.lock_core.specs.Moves.{Goes, KeepsHold, SiteMove}
 use Rattle.lock_core.specs.Laws.Move.{set-moves, spin-moved}
 use Rattle.lock_core.specs.ViewParts.{keep_part, set_part, snoc_part}
 use Rattle.lock_core.specs.Regions.{wide-part, part-in, part-below, part-at}
+use Rattle.lock_core.specs.Types.{View, Hand, SpinHand}
 
 abbrev V : Type 0
 V = View (Unit {0})

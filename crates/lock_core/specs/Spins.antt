@@ -2,17 +2,12 @@
 use Rattle.std.specs.Prelude.{◌≡◌, ◌≢◌, ℕ, suc, ◌+◌, ◌-◌, ◌*◌, ◌/◌, ◌%◌, ◌<◌, ◌≤◌, ◌⊎◌, Bool, true, false, List, [], ◌∷◌, ◌++◌, length, map, slice_index, slice_set, Some}
 use mathlib.Core.Option.{some}
 use lib.ListN.{get_elem?}
-use Rattle.lock_core.specs.declared.view.View.{View}
-use Rattle.lock_core.specs.declared.view.SpinHand.{SpinHand}
-use Rattle.lock_core.specs.declared.view.Frame.{Frame}
-use Rattle.lock_core.specs.declared.view.Saw.{Saw}
-use Rattle.lock_core.specs.declared.view.Point.{Point}
-use Rattle.lock_core.specs.declared.view.Point.TheVariants.{Out, Undoing, Pending, Taking, Trying, Cleared, Head, Ready, Passing, Holding}
 use Rattle.lock_core.specs.declared.layout.TheConstants.{SPIN_WORDS}
 use Rattle.lock_core.specs.Views.{SpinPart, SpinStays, no_spin}
 use Rattle.lock_core.specs.LockHands.{lock_hand_at, frame_at, point_at, depth_of, RestsAt, RestsEverywhere}
 use Rattle.lock_core.specs.SpinFrames.{uses, stands, holds_of}
 use Rattle.lock_core.specs.SpinQueues.{LockKept, tail_unit}
+use Rattle.lock_core.specs.Types.{View, SpinHand, Frame, Saw, Point, Out, Undoing, Pending, Taking, Trying, Cleared, Head, Ready, Passing, Holding}
 use Rattle.lock_core.specs.ViewParts.{Each}
 
 -- the parts of the spin word: the locked byte, the pending bit, and the code of the tail

@@ -1,9 +1,6 @@
 -- What a pass counts of its calls that wait.
 use Rattle.std.specs.Prelude.{ℕ, ◌+◌, ◌-◌, ◌^◌, min, Bool, true, false, Result, Ok, Err, if◌then◌else◌}
-use Rattle.lock_core.specs.declared.how.How.{How}
-use Rattle.lock_core.specs.declared.how.How.TheVariants.{Fast, Spun, Slept}
-use Rattle.lock_core.specs.declared.how.Interrupted.{Interrupted}
-use Rattle.lock_core.specs.declared.tally.Tally.{Tally}
+use Rattle.lock_core.specs.Types.{How, Fast, Spun, Slept, Interrupted, Tally}
 
 -- that of a new pass
 abbrev pub no_tally : Tally

@@ -1,23 +1,9 @@
 -- Views, and what each kind of step makes of them.
 use Rattle.std.specs.Prelude.{◌≤◌, ◌≡◌, ◌⊎◌, ℕ, zero, suc, ◌+◌, ◌-◌, ◌==◌, true, false, List, [], ◌∷◌, ◌++◌, length, slice_get, slice_set, leb, Option, Some, None, if◌then◌else◌, ◌/◌, ◌%◌, ◌^◌}
 use Rattle.std.specs.Option.{option_map_or}
-use Rattle.word_bits.specs.declared.entry.Entry.{Entry}
-use Rattle.word_bits.specs.declared.rec.Rec.{Rec}
-use Rattle.word_bits.specs.declared.reply.Reply.{Reply}
-use Rattle.word_bits.specs.declared.reply.Reply.TheVariants.{Busy, Intr, Sent}
 use Rattle.word_bits.specs.Histories.{Plan}
-use Rattle.lock_core.specs.declared.view.View.{View}
-use Rattle.lock_core.specs.declared.view.Hand.{Hand}
-use Rattle.lock_core.specs.declared.view.SpinHand.{SpinHand}
-use Rattle.lock_core.specs.declared.view.Frame.{Frame}
-use Rattle.lock_core.specs.declared.view.Point.TheVariants.{Out, Holding}
-use Rattle.lock_core.specs.declared.view.Heard.{Heard}
-use Rattle.lock_core.specs.declared.view.Told.{Told}
-use Rattle.lock_core.specs.declared.view.Held.{Held}
-use Rattle.lock_core.specs.declared.view.Held.TheVariants.{No, Shared, Alone}
-use Rattle.lock_core.specs.declared.view.Stage.{Stage}
-use Rattle.lock_core.specs.declared.view.Stage.TheVariants.{Rest, Entered, Logged}
 use Rattle.lock_core.specs.Records.{bit}
+use Rattle.lock_core.specs.Types.{Entry, Rec, Reply, Busy, Intr, Sent, View, Hand, SpinHand, Frame, Out, Holding, Heard, Told, Held, No, Shared, Alone, Stage, Rest, Entered, Logged}
 
 -- a pass that has no number, holds nothing and has seen these entries
 abbrev pub stranger : Option Plan → List Entry → Hand
@@ -223,6 +209,11 @@ owed_weight (Logged e) = 1
 abbrev pub is_number : ℕ → Option ℕ → ℕ
 is_number t None = 0
 is_number t (Some u) = bit (u == t)
+
+-- 1 if it has a number
+abbrev pub number_weight : Option ℕ → ℕ
+number_weight None = 0
+number_weight (Some t) = 1
 
 -- signals that were consumed by the task's pass
 abbrev pub consumed_weight : ℕ → Option ℕ → ℕ → ℕ

@@ -6,7 +6,6 @@ ghost use Rattle.word_bits.specs.RecWord.{IsRec, rec_word};
 ghost use Rattle.word_bits.specs.Histories.{Plan as Calls};
 ghost use Rattle.lock_core.specs.declared.pass.Pass.{Pass as Seat};
 ghost use Rattle.lock_core.specs.declared.site.Site.{Site as Table};
-ghost use Rattle.lock_core.specs.declared.view.Held.TheVariants.{No, Alone};
 ghost use Rattle.lock_core.specs.declared.layout.TheConstants.{LOCK_WORDS};
 ghost use Rattle.lock_core.specs.Chronicles.{Chronicles};
 ghost use Rattle.lock_core.specs.SiteHandles.{plan_of, view_of, hand_in, front_in, IsLatest, SawNonePending, SawOwnSignals, SitsAt, UndoneIsZero};
@@ -19,6 +18,7 @@ ghost use Rattle.lock_core.specs.Shown.{Shown, AllButHand, StepsOn};
 ghost use Rattle.lock_core.specs.Views.{after_commit, after_note, committed, handed, next_entry, noted, quieted, sending, ticked, wrote, Beside, OwesNoSignal, Unsent};
 ghost use Rattle.lock_core.specs.Faces.{IsFace, Follows, KeepsHold};
 ghost use Rattle.lock_core.specs.SeatLending.{LendsSeat};
+ghost use Rattle.lock_core.specs.Types.{No, Alone};
 
 use crate::is::Is;
 use crate::{Held, Interrupted, Pass, Site, SiteRule};

@@ -1,7 +1,7 @@
 //! The object that has no words.
 ghost use Rattle.std.specs.Prelude.{refl};
-ghost use Rattle.word_bits.specs.declared.call.CallWords.{CallWords};
 ghost use Rattle.lock_core.specs.Nothings.{nothing, few, sized, apart};
+ghost use Rattle.lock_core.specs.Types.{CallWords};
 
 use word_bits::{CallWords, Object, Reply, ValueObject};
 

@@ -1,11 +1,10 @@
 //! Passes: what a task makes the steps of one table with.
 ghost use Rattle.std.specs.Prelude.{◌≡◌, ◌≢◌, ◌<◌, true, false, slice_index_or, None, length};
-ghost use Rattle.lock_core.specs.declared.view.Held.TheVariants.{No};
-ghost use Rattle.lock_core.specs.declared.view.Point.TheVariants.{Out};
 ghost use Rattle.lock_core.specs.LockHands.{point_at, depth_of, RestsAt};
 ghost use Rattle.lock_core.specs.Records.{bit};
 ghost use Rattle.lock_core.specs.Nestings.{is_held, waits_at, mask_of, no_nesting};
 ghost use Rattle.lock_core.specs.SiteHandles.{view_of, hand_in, past_of, task_in, held_in, done_in, front_in, NotesFront, NotesHold, NotesDepth, NotesLock, NotesNone, IsDepthTold, IsNestTold};
+ghost use Rattle.lock_core.specs.Types.{No, Out};
 
 use crate::layout::SPIN_LOCKS;
 use crate::rule::SiteRule;

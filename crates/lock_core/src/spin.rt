@@ -3,13 +3,12 @@ ghost use Rattle.std.specs.Prelude.{◌≡◌, ℕ, ◌+◌, ◌<◌, ◌≤◌,
 ghost use mathlib.Core.Option.{some};
 ghost use lib.ListN.{get_elem?};
 ghost use Rattle.word_bits.specs.Histories.{Plan as Calls};
-ghost use Rattle.lock_core.specs.declared.view.View.{View};
-ghost use Rattle.lock_core.specs.declared.view.SpinHand.{SpinHand};
 ghost use Rattle.lock_core.specs.declared.layout.TheConstants.{LOCK_WORDS, SPIN_WORDS};
 ghost use Rattle.lock_core.specs.Layout.{part};
 ghost use Rattle.lock_core.specs.Views.{spin_part, part_with};
 ghost use Rattle.lock_core.specs.Spins.{SpinsKept, SpinGoes, SpinsMove, SpinFrees, spun};
 ghost use Rattle.lock_core.specs.Moves.{Goes};
+ghost use Rattle.lock_core.specs.Types.{View, SpinHand};
 
 use crate::rule::SiteRule;
 use crate::view::View;

@@ -6,9 +6,7 @@ use Rattle.std.proofs.lemmas.Bool.Decides.{nat_tests}
 use Rattle.std.specs.Option.{IfSome}
 use Rattle.std.specs.Io.KnownBytes.{Consumes, IsAtEnd, Keeps, Appends}
 use Rattle.task_script.specs.Scripts.{Listing}
-use Rattle.task_script.specs.declared.reader.ScriptError.{ScriptError}
 use Rattle.task_script.specs.declared.reader.ScriptError.TheVariants.{Refused as RefusedLine}
-use Rattle.task_script.specs.declared.reason.Reason.{Reason}
 use Rattle.task_script.specs.Grammar.{Refusal, script_of}
 use Rattle.task_script.specs.Readings.{Reads}
 use Rattle.mm_program.specs.declared.status.Status.{Status}
@@ -17,6 +15,7 @@ use Rattle.task_script.specs.Generated.{generated}
 use Rattle.mm_program.specs.declared.options.Options.{Options}
 use Rattle.mm_program.specs.Requests.{Request, helped, misused, refused, accepted, reads_input, request, request_of, script_for}
 use Rattle.mm_program.specs.Answers.{Service, NoService, Says, OfKept, Answers, Completes, GivesScript, TakesAtMost, read_faults}
+use Rattle.mm_program.specs.Types.{ScriptError, Reason}
 
 Keeps-refl : (a : Option (List ℕ)) → Keeps a a
 Keeps-refl None = tt

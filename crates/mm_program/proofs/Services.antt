@@ -1,13 +1,11 @@
 -- A machine that ran has done all calls of its script.
 use Rattle.std.proofs.Common.{◌≡◌, ℕ, Bool, List, sym, subst}
 use Rattle.word_bits.specs.Histories.{Plan}
-use Rattle.lock_core.specs.declared.view.Hand.{Hand}
-use Rattle.lock_core.specs.declared.view.Moment.{Moment}
 use Rattle.task_script.specs.Scripts.{Listing}
-use Rattle.mm_serve.specs.declared.machine.Machine.{Machine}
 use Rattle.mm_serve.specs.Machines.{AreSitesOf, GoBackToTasks, HasLegalResults, HasRun, IsAtRest, IsMachineOf, KnowsPasts}
 use Rattle.mm_serve.proofs.Copies.{all-held}
 use Rattle.mm_program.specs.ProgramKept.{HasServed}
+use Rattle.mm_program.specs.Types.{Hand, Moment, Machine}
 
 module _ {S C P U : Type 0} (is_space : S → Bool) (calls_on : S → Plan) (hand : P → Hand) (past spun : P → List Moment) (idle : S → P → Type 0) (looked_back : S → P → ℕ → Type 0) (knows_past : S → P → Type 0) where
   -- also where its results were lent since, and came back as they were

@@ -1,17 +1,14 @@
 -- What is known under locks that tell something is known under locks that tell what follows from it.
 use Rattle.std.proofs.Common.{ℕ, List}
 use Rattle.word_bits.specs.Histories.{Plan}
-use Rattle.lock_core.specs.declared.view.Moment.{Moment}
 use Rattle.lock_core.specs.Shown.{Shown}
 use Rattle.sleep_lock.specs.LockMembers.{LockMembers}
 use Rattle.task_script.specs.Scripts.{Listing}
 use Rattle.mm_report.specs.Results.{Told}
-use Rattle.mm_serve.specs.declared.space_or_table.SpaceOrTable.TheVariants.{Space, Table}
-use Rattle.mm_serve.specs.declared.space_or_table.SpaceOrTablePass.{SpaceOrTablePass}
-use Rattle.mm_serve.specs.declared.space_or_table.SpaceOrTablePass.TheVariants.{OfSpace, OfTable}
 use Rattle.mm_serve.specs.MachineQueues.{GoesBackToTask}
 use Rattle.mm_serve.specs.UnderLocks.{HasLookedBackUnder, KnowsPastUnder, LockedObject, past_under, spun_under}
 use Rattle.mm_program.specs.ProgramKept.{HasServedUnder, LockedMachine}
+use Rattle.mm_program.specs.Types.{Moment, Space, Table, SpaceOrTablePass, OfSpace, OfTable}
 
 -- such locks, which tell this
 abbrev pub telling : {L P : Type 0} → LockMembers L P → (Plan → Shown → Type 0) → (Plan → Shown → List Moment → Type 0) → LockMembers L P

@@ -13,9 +13,6 @@ use Rattle.guarded.specs.ObjectCopying.{AreKnown}
 use Rattle.sleep_lock.specs.LockMembers.{LockMembers}
 use Rattle.task_script.specs.Scripts.{plan_of}
 use Rattle.mm_report.specs.Orders.{IsEventOf}
-use Rattle.mm_serve.specs.declared.space_or_table.SpaceOrTable.TheVariants.{Space, Table}
-use Rattle.mm_serve.specs.declared.space_or_table.SpaceOrTablePass.{SpaceOrTablePass}
-use Rattle.mm_serve.specs.declared.space_or_table.SpaceOrTablePass.TheVariants.{OfSpace, OfTable}
 use Rattle.mm_serve.specs.Machines.{sites_of}
 use Rattle.mm_serve.specs.MachinePasts.{KnowsPast}
 use Rattle.mm_serve.specs.MachineSites.{holds_space}
@@ -24,6 +21,7 @@ use Rattle.mm_serve.proofs.Causing.{recalled_causes}
 use Rattle.mm_serve.proofs.RealTime.{without_told}
 use Rattle.mm_program.specs.ProgramKept.{LockedMachine}
 use Rattle.mm_program.specs.ToldCauses.{TellsCauses, word_under}
+use Rattle.mm_program.specs.Types.{Space, Table, SpaceOrTablePass, OfSpace, OfTable}
 use Rattle.mm_program.proofs.ToldOrder.{has-task}
 
 module _ {A S R X P E C T F G Y Q H D : Type 0} (spaces : LockMembers A P) (tables : LockMembers T Q) where

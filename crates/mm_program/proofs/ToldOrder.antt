@@ -13,9 +13,6 @@ use Rattle.sleep_lock.specs.LockMembers.{LockMembers}
 use Rattle.task_script.specs.Scripts.{Declared, Listing, plan_of}
 use Rattle.mm_report.specs.Orders.{IsEventOf}
 use Rattle.mm_report.specs.Results.{Told, AreLegalFrom, IsLegalOn}
-use Rattle.mm_serve.specs.declared.space_or_table.SpaceOrTable.TheVariants.{Space, Table}
-use Rattle.mm_serve.specs.declared.space_or_table.SpaceOrTablePass.{SpaceOrTablePass}
-use Rattle.mm_serve.specs.declared.space_or_table.SpaceOrTablePass.TheVariants.{OfSpace, OfTable}
 use Rattle.mm_serve.specs.Machines.{results_of, sites_of, staffed}
 use Rattle.mm_serve.specs.MachinePasts.{KnowsPast}
 use Rattle.mm_serve.specs.MachineSites.{holds_space}
@@ -24,6 +21,7 @@ use Rattle.mm_serve.specs.UnderLocks.{KnowsPastUnder, LockedObject, calls_under,
 use Rattle.mm_serve.proofs.RealTime.{recalled_in_real_time_order, without_told}
 use Rattle.mm_program.specs.ProgramKept.{LockedMachine}
 use Rattle.mm_program.specs.ToldOrder.{StandInOrder, TellsInRealTimeOrder}
+use Rattle.mm_program.specs.Types.{Space, Table, SpaceOrTablePass, OfSpace, OfTable}
 
 -- what is told of one object is legal
 legal-at : (s : Listing) (object i : ℕ) (ds : List Declared) (ws : List Words) (ts : List Told) (d : Declared) (t : Told) → AreLegalFrom s object ds ws ts → slice_get ds i ≡ Some d → slice_get ts i ≡ Some t

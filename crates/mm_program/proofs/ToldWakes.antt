@@ -4,7 +4,6 @@ use Rattle.word_bits.specs.Objects.{Obj}
 use Rattle.word_bits.specs.Histories.{Plan}
 use Rattle.vma_map.specs.Spaces.{space}
 use Rattle.fd_table.specs.Tables.{table}
-use Rattle.lock_core.specs.declared.view.Moment.{Moment}
 use Rattle.lock_core.specs.Pasts.{EachMoment}
 use Rattle.lock_core.specs.Shown.{Shown}
 use Rattle.lock_core.proofs.RowLaws.{some-inside, get-there}
@@ -17,13 +16,11 @@ use Rattle.rwsem_slow.specs.RwSemLocks.{KnowsRwSem}
 use Rattle.rwsem_slow.specs.RwSemStated.{IsRwSemThen}
 use Rattle.rwsem_slow.proofs.LostWakes as rwsem_wakes
 use Rattle.sleep_lock.specs.LockMembers.{LockMembers}
-use Rattle.mm_serve.specs.declared.space_or_table.SpaceOrTable.TheVariants.{Space, Table}
-use Rattle.mm_serve.specs.declared.space_or_table.SpaceOrTablePass.{SpaceOrTablePass}
-use Rattle.mm_serve.specs.declared.space_or_table.SpaceOrTablePass.TheVariants.{OfSpace, OfTable}
 use Rattle.mm_serve.specs.Machines.{sites_of}
 use Rattle.mm_serve.specs.UnderLocks.{KnowsPastUnder, LockedObject, past_under}
 use Rattle.mm_program.specs.ProgramKept.{LockedMachine}
 use Rattle.mm_program.specs.ToldWakes.{LosesNoSpaceWake, LosesNoTableWake, LosesNoWake, TellsNoLostWake}
+use Rattle.mm_program.specs.Types.{Moment, Space, Table, SpaceOrTablePass, OfSpace, OfTable}
 
 loses-no-table-wake : {Call : Type 0} (o : Obj Call) (k : Plan) (m : Moment) → IsMutexThen o 64 k m → LosesNoTableWake m
 loses-no-table-wake o k m then = record { waiting = then.1.0; listed = then.1.1; woken = mutex_wakes.loses_no_wake m }

@@ -1,3 +1,4 @@
+pub mod Types
 pub mod Requests
 pub mod ProgramKept
 pub mod Answers

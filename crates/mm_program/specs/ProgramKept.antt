@@ -1,13 +1,10 @@
 -- The machine that a run of a script leaves.
 use Rattle.std.specs.Prelude.{ℕ, Bool, List}
 use Rattle.word_bits.specs.Histories.{Plan}
-use Rattle.lock_core.specs.declared.view.Hand.{Hand}
-use Rattle.lock_core.specs.declared.view.Moment.{Moment}
+use Rattle.mm_program.specs.Types.{Hand, Moment, Machine, SpaceOrTablePass}
 use Rattle.sleep_lock.specs.LockMembers.{LockMembers}
 use Rattle.task_script.specs.Scripts.{Listing}
 use Rattle.mm_report.specs.Results.{Told, AreLegal}
-use Rattle.mm_serve.specs.declared.machine.Machine.{Machine}
-use Rattle.mm_serve.specs.declared.space_or_table.SpaceOrTablePass.{SpaceOrTablePass}
 use Rattle.mm_serve.specs.Machines.{IsMachineOf, IsAtRest, AreAllKnown, AreHeld, GoBackToTasks, KnowsPasts, gathered_of, results_of}
 use Rattle.mm_serve.specs.MachineSites.{holds_space}
 use Rattle.mm_serve.specs.UnderLocks.{HasLookedBackUnder, IsIdleUnder, KnowsPastUnder, LockedObject, calls_under, hand_under, past_under, spun_under}

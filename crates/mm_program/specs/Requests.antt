@@ -1,7 +1,6 @@
 -- What the words of the command line and the input call for, and what is then said.
 use Rattle.std.specs.Prelude.{ℕ, Bool, true, false, List, ◌++◌, codes, decimal, Option, Some, None, is_none, Result, Ok, Err}
-use Rattle.task_script.specs.declared.reason.Reason.{Reason}
-use Rattle.task_script.specs.declared.reason.Reason.TheVariants.{TooLong, Byte, Version, Words, Place, Name, Twice, Limit, Unknown, Call, Mode, Number, Prot, Access}
+use Rattle.mm_program.specs.Types.{Reason, TooLong, Byte, Version, Words, Place, Name, Twice, Limit, Unknown, Call, Mode, Number, Prot, Access}
 use Rattle.task_script.specs.Scripts.{Listing}
 use Rattle.task_script.specs.Generated.{generated}
 use Rattle.task_script.specs.Grammar.{Refusal, script_of}

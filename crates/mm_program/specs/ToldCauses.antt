@@ -6,10 +6,10 @@ use Rattle.sleep_lock.specs.LockMembers.{LockMembers}
 use Rattle.task_script.specs.Scripts.{Declared, Listing, plan_of}
 use Rattle.mm_report.specs.Orders.{IsEventOf}
 use Rattle.mm_report.specs.Results.{Told}
-use Rattle.mm_serve.specs.declared.space_or_table.SpaceOrTablePass.{SpaceOrTablePass}
 use Rattle.mm_serve.specs.Machines.{gathered_of}
 use Rattle.mm_serve.specs.UnderLocks.{past_under}
 use Rattle.mm_program.specs.ProgramKept.{HasServedUnder, LockedMachine}
+use Rattle.mm_program.specs.Types.{SpaceOrTablePass}
 
 module _ {A P T Q : Type 0} (spaces : LockMembers A P) (tables : LockMembers T Q) where
   -- where the lock's word stands in the table of an object of this kind

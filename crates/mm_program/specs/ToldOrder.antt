@@ -8,11 +8,11 @@ use Rattle.sleep_lock.specs.LockMembers.{LockMembers}
 use Rattle.task_script.specs.Scripts.{Declared, Listing, plan_of}
 use Rattle.mm_report.specs.Orders.{IsEventOf, Before}
 use Rattle.mm_report.specs.Results.{Told}
-use Rattle.mm_serve.specs.declared.space_or_table.SpaceOrTablePass.{SpaceOrTablePass}
 use Rattle.mm_serve.specs.Machines.{gathered_of}
 use Rattle.mm_serve.specs.RealTimeOrder.{ReadAtOnePlace, WasRecordedBefore}
 use Rattle.mm_serve.specs.UnderLocks.{past_under}
 use Rattle.mm_program.specs.ProgramKept.{HasServedUnder, LockedMachine}
+use Rattle.mm_program.specs.Types.{SpaceOrTablePass}
 
 -- In the history of a space or of a table the first of these calls stands before the second, or both only read at one place of the log.
 abbrev pub StandInOrder : (is_space : Bool) → Plan → Told → (first second : Event) → Type 0

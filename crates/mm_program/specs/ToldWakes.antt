@@ -1,8 +1,6 @@
 -- That no wake-up is lost at any moment that a gathered pass goes back to.
 use Rattle.std.specs.Prelude.{◌≡◌, ℕ, List, slice_get, Some}
-use Rattle.lock_core.specs.declared.view.Moment.{Moment}
 use Rattle.lock_core.specs.Pasts.{EachMoment}
-use Rattle.wait_list.specs.declared.view.Waiter.{Waiter}
 use Rattle.mutex_slow.specs.LostWakes as mutex_wakes
 use Rattle.mutex_slow.specs.MutexStated.{IsListed}
 use Rattle.rwsem_wake.specs.SemParts.{SemPart}
@@ -11,11 +9,10 @@ use Rattle.rwsem_slow.specs.RwSemStated.{IsQueued}
 use Rattle.sleep_lock.specs.LockMembers.{LockMembers}
 use Rattle.task_script.specs.Scripts.{Declared, Listing}
 use Rattle.mm_report.specs.Results.{Told}
-use Rattle.mm_serve.specs.declared.space_or_table.SpaceOrTablePass.{SpaceOrTablePass}
-use Rattle.mm_serve.specs.declared.space_or_table.SpaceOrTablePass.TheVariants.{OfSpace, OfTable}
 use Rattle.mm_serve.specs.Machines.{gathered_of}
 use Rattle.mm_serve.specs.UnderLocks.{past_under}
 use Rattle.mm_program.specs.ProgramKept.{HasServedUnder, LockedMachine}
+use Rattle.mm_program.specs.Types.{Moment, Waiter, SpaceOrTablePass, OfSpace, OfTable}
 
 -- There is a list of those that wait for a table, and of each such list no wake-up is lost.
 pub record LosesNoTableWake (m : Moment) : Type 0 where

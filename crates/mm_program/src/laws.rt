@@ -1,10 +1,6 @@
 //! Laws of the machine that the program keeps. Each is the contract of a function that does nothing.
 ghost use Rattle.vma_map.specs.Spaces.{space};
 ghost use Rattle.fd_table.specs.Tables.{table};
-ghost use Rattle.vma_map.specs.declared.areas.Areas.{Areas};
-ghost use Rattle.vma_map.specs.declared.call.SpaceCall.{SpaceCall};
-ghost use Rattle.fd_table.specs.declared.fds.Fds.{Fds};
-ghost use Rattle.fd_table.specs.declared.call.TableCall.{TableCall};
 ghost use Rattle.mutex_slow.specs.MutexLocks.{KnowsMutex};
 ghost use Rattle.rwsem_slow.specs.RwSemLocks.{KnowsRwSem};
 ghost use Rattle.osq_unqueue.specs.LockSpinQueues.{KnowsSpinQueue};
@@ -13,6 +9,7 @@ ghost use Rattle.mm_program.specs.ProgramKept.{LockedMachine};
 ghost use Rattle.mm_program.specs.ToldCauses.{TellsCauses};
 ghost use Rattle.mm_program.specs.ToldOrder.{TellsInRealTimeOrder};
 ghost use Rattle.mm_program.specs.ToldWakes.{TellsNoLostWake};
+ghost use Rattle.mm_program.specs.Types.{Areas, SpaceCall, Fds, TableCall};
 
 use crate::locks::{SpaceLock, TableLock};
 use cpu_task::Crew;

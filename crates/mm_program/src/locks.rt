@@ -3,7 +3,7 @@ ghost use Rattle.std.specs.Prelude.{List};
 ghost use Rattle.word_bits.specs.Histories.{Plan};
 ghost use Rattle.vma_map.specs.Spaces.{space};
 ghost use Rattle.fd_table.specs.Tables.{table};
-ghost use Rattle.lock_core.specs.declared.view.Moment.{Moment};
+ghost use Rattle.mm_program.specs.Types.{Moment};
 ghost use Rattle.lock_core.specs.Shown.{Shown};
 ghost use Rattle.mutex_slow.specs.MutexLocks.{KnowsMutex};
 ghost use Rattle.rwsem_slow.specs.RwSemLocks.{KnowsRwSem};

@@ -12,13 +12,8 @@ ghost use Rattle.rwsem_slow.specs.RwSemLocks.{KnowsRwSem};
 ghost use Rattle.osq_unqueue.specs.LockSpinQueues.{KnowsSpinQueue};
 ghost use Rattle.sleep_lock.specs.LockMembers.{members};
 ghost use Rattle.mm_program.specs.ProgramKept.{HasServedUnder, LockedMachine};
-ghost use Rattle.vma_map.specs.declared.areas.Areas.{Areas};
-ghost use Rattle.vma_map.specs.declared.call.SpaceCall.{SpaceCall};
-ghost use Rattle.fd_table.specs.declared.fds.Fds.{Fds};
-ghost use Rattle.fd_table.specs.declared.call.TableCall.{TableCall};
-ghost use Rattle.cpu_task.specs.declared.park.ParkCrew.{ParkCrew};
-ghost use Rattle.cpu_task.specs.declared.park.ParkCpu.{ParkCpu};
 ghost use Rattle.mm_program.specs.Requests.{reads_input, request};
+ghost use Rattle.mm_program.specs.Types.{Areas, SpaceCall, Fds, TableCall, ParkCrew, ParkCpu};
 
 use crate::locks::{SpaceLock, TableLock};
 use crate::objects::ScriptMachine;

@@ -6,17 +6,15 @@ use Rattle.std.proofs.lemmas.Option.{same_Some, slice_get-get_or}
 use Rattle.std.proofs.lemmas.List.Sums.{count_by_more_yes, length-filter}
 use Rattle.std.proofs.lemmas.List.{take_all, drop_all, length-map}
 use Rattle.std.proofs.lemmas.Bool.{eq-eqb}
-use Rattle.word_bits.specs.declared.call.CallWords.{CallWords}
-use Rattle.word_bits.specs.declared.rec.Rec.{Rec}
 use Rattle.word_bits.specs.RecWord.{IsRec, rec_word}
 use Rattle.word_bits.specs.Objects.{Obj}
 use Rattle.word_bits.specs.Histories.{Event, task_events}
-use Rattle.task_script.specs.declared.script.Line.{Line}
 use Rattle.task_script.specs.Scripts.{Listing, call_words, is_on}
 use Rattle.mm_report.specs.declared.cursor.Cursor.{Cursor}
 use Rattle.mm_report.specs.Text.{event_line, event_text, task_event_text, task_lines}
 use Rattle.mm_report.specs.Merged.{position, stands_below, front, behind, NextFrom}
 use Rattle.mm_report.specs.Cursors.{HasRecords, IsAt, calls_before, events_of}
+use Rattle.mm_report.specs.Types.{CallWords, Rec, Line}
 use Rattle.mm_report.proofs.Merging.{front_yes, front_no, behind_yes, behind_no}
 use Rattle.mm_report.proofs.Places.{IsCallAt, call_at, events_length}
 use Rattle.mm_report.proofs.Reserved.{drop_at, lines_at}

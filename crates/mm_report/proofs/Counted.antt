@@ -5,11 +5,11 @@ use Rattle.std.specs.List.{AllByRecursion}
 use Rattle.std.proofs.lemmas.List.{length-map, map-append}
 use Rattle.std.proofs.lemmas.List.Concat.{flat_map-cons}
 use Rattle.std.proofs.lemmas.List.Sums.{sum_by-append, sum_by-cons}
-use Rattle.word_bits.specs.declared.rec.Rec.{Rec}
 use Rattle.word_bits.specs.Histories.{Records}
 use Rattle.word_bits.specs.RecWord.{IsRec, rec_word}
 use Rattle.task_script.proofs.Mapped.{mapped_at}
 use Rattle.mm_report.specs.Summary.{is_refused, refusals}
+use Rattle.mm_report.specs.Types.{Rec}
 use Rattle.mm_report.proofs.Reserved.{more_sum}
 
 -- one more word was counted

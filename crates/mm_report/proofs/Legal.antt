@@ -2,7 +2,6 @@
 use Rattle.std.proofs.Common.{◌≡◌, ℕ, ◌+◌, ◌*◌, List, length, ap, ◌∙◌}
 use Rattle.std.specs.Prelude.{flat_map}
 use Rattle.std.proofs.lemmas.List.{length-map}
-use Rattle.word_bits.specs.declared.entry.Entry.{Entry}
 use Rattle.word_bits.specs.LockWords.{Unavailable}
 use Rattle.word_bits.specs.Snapshots.{Words}
 use Rattle.word_bits.specs.Objects.{Obj}
@@ -17,6 +16,7 @@ use Rattle.mm_report.specs.Results.{Told}
 use Rattle.mm_report.specs.Text.{event_text, calls_text}
 use Rattle.mm_report.specs.Merged.{merged, task_lists}
 use Rattle.mm_report.specs.Cursors.{AreRead}
+use Rattle.mm_report.specs.Types.{Entry}
 use Rattle.mm_report.proofs.Lawful.{space_lawful, table_lawful}
 use Rattle.mm_report.proofs.Ordered.{have_records, merged_legal}
 

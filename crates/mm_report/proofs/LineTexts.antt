@@ -5,15 +5,12 @@ use Rattle.std.specs.List.{list_all}
 use Rattle.std.proofs.lemmas.Bool.{and_from, and_parts}
 use Rattle.std.proofs.lemmas.Bool.Decides.{nat_tests}
 use Rattle.std.proofs.lemmas.List.Folds.{list_all-append}
-use Rattle.word_bits.specs.declared.call.CallWords.{CallWords}
-use Rattle.word_bits.specs.declared.reply.Errno.{Errno}
-use Rattle.word_bits.specs.declared.reply.Errno.TheVariants.{BadF, NoMem, Exist, Inval, MFile, Fault}
-use Rattle.word_bits.specs.declared.reply.Reply.{Reply}
-use Rattle.word_bits.specs.declared.reply.Reply.TheVariants.{Good, Num, Refused, MapErr, AccErr, Busy, Intr, Sent}
+use Rattle.word_bits.specs.declared.reply.Errno.TheVariants.{Fault}
 use Rattle.task_script.specs.Texts.{call_text, prot_text}
 use Rattle.task_script.proofs.Inner.{is_inner, IsInner, decimal_inner, prot_inner, call_inner}
 use Rattle.task_script.proofs.Splitting.{list_all-weaker}
 use Rattle.mm_report.specs.Text.{errno_text, reply_text}
+use Rattle.mm_report.specs.Types.{CallWords, Errno, BadF, NoMem, Exist, Inval, MFile, Reply, Good, Num, Refused, MapErr, AccErr, Busy, Intr, Sent}
 
 -- a byte is another one
 abbrev pub is_not : ℕ → ℕ → Bool

@@ -5,25 +5,20 @@ use Rattle.std.specs.Str.{bytes_eq}
 use Rattle.std.proofs.lemmas.Bool.Decides.{nat_tests}
 use Rattle.word_bits.proofs.Modes.{mode_number-lt}
 use Rattle.word_bits.proofs.CallParts.{unthirded}
-use Rattle.word_bits.specs.declared.call.CallWords.{CallWords}
-use Rattle.word_bits.specs.declared.call.Mode.{Mode}
-use Rattle.word_bits.specs.declared.call.Mode.TheVariants.{Plain, Int, Try}
 use Rattle.word_bits.specs.CallKinds.{kind_of_number}
 use Rattle.word_bits.specs.Calls.{words_of, with_third, mode_number, signal_of}
 use Rattle.vma_map.specs.Spaces.{IsAccess}
 use Rattle.vma_map.specs.Laws.SpaceCall as space_laws
-use Rattle.vma_map.specs.declared.call.SpaceCall.TheVariants.{Map, MapAny, MapNew, Unmap, Protect, Populate, Fault, Remap}
+use Rattle.vma_map.specs.declared.call.SpaceCall.TheVariants.{Fault}
 use Rattle.fd_table.specs.Laws.TableCall as table_laws
-use Rattle.fd_table.specs.declared.call.TableCall.TheVariants.{Open, Close, Dup, Dup2, Get}
 use Rattle.task_script.specs.Tokens.{prot, access}
 use Rattle.task_script.specs.Verbs.{call_on}
-use Rattle.task_script.specs.declared.version.Version.{Version}
-use Rattle.task_script.specs.declared.version.Version.TheVariants.{One, Two}
 use Rattle.task_script.specs.Versions.{most_tasks}
 use Rattle.task_script.specs.Texts.{prot_text, access_text, bare_text}
 use Rattle.task_script.proofs.Decimals.{number-decimal}
 use Rattle.task_script.proofs.Inner.{BeginsWithDigit, decimal_begins}
 use Rattle.mm_report.specs.Meanings.{IsKeptAs, SpaceCallsAreNamed, TableCallsAreNamed, SignalsAreNamed}
+use Rattle.mm_report.specs.Types.{CallWords, Mode, Plain, Int, Try, Map, MapAny, MapNew, Unmap, Protect, Populate, Remap, Open, Close, Dup, Dup2, Get, Version, One, Two}
 
 -- a number isn't the word any
 not_any : (ds : List ℕ) → BeginsWithDigit ds → bytes_eq ds (codes "any") ≡ false

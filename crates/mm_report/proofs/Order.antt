@@ -4,15 +4,13 @@ use Rattle.std.specs.Prelude.{filter, flat_map, slice_get}
 use Rattle.std.specs.List.{AllByRecursion}
 use Rattle.std.proofs.lemmas.Bool.{cases_lt, cases_Bool, ne_eqb, eq-eqb}
 use Rattle.std.proofs.lemmas.List.Elements.{filter-append}
-use Rattle.word_bits.specs.declared.call.CallWords.{CallWords}
-use Rattle.word_bits.specs.declared.entry.Entry.{Entry}
-use Rattle.word_bits.specs.declared.rec.Rec.{Rec}
 use Rattle.word_bits.specs.LockWords.{Unavailable}
 use Rattle.word_bits.specs.Objects.{Obj}
 use Rattle.word_bits.specs.Histories.{Plan, Records, Event, task_events, logs}
 use Rattle.word_bits.specs.Legal.{IsRecord, AreTaskRecords, AreRecords, seen_after}
 use Rattle.mm_report.specs.Merged.{task_lists, position, front, behind, merged, NextFrom}
 use Rattle.mm_report.specs.Orders.{is_of, KeepsOrder}
+use Rattle.mm_report.specs.Types.{CallWords, Entry, Rec}
 use Rattle.mm_report.proofs.Merging.{front_yes, front_no, behind_yes, behind_no}
 use Rattle.mm_report.proofs.Ordered.{merged_legal, logged_place}
 

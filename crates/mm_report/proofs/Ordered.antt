@@ -6,21 +6,16 @@ use Rattle.std.proofs.lemmas.List.{length-map}
 use Rattle.std.proofs.lemmas.List.Sums.{length-filter}
 use Rattle.std.proofs.lemmas.Bool.{cases_lt, cases_Bool, and_left, eq-eqb, eqb-true, both_ways}
 use Rattle.std.proofs.lemmas.Option.{same_Some}
-use Rattle.word_bits.specs.declared.call.CallWords.{CallWords}
-use Rattle.word_bits.specs.declared.entry.Entry.{Entry}
-use Rattle.word_bits.specs.declared.rec.Rec.{Rec}
-use Rattle.word_bits.specs.declared.reply.Reply.{Reply}
-use Rattle.word_bits.specs.declared.reply.Reply.TheVariants.{Good, Num, Refused, MapErr, AccErr, Busy, Intr, Sent}
 use Rattle.word_bits.specs.EntryWord.{entry_eq}
 use Rattle.word_bits.specs.LockWords.{Unavailable}
 use Rattle.word_bits.specs.Objects.{Obj}
 use Rattle.word_bits.specs.Histories.{Plan, Records, Event, task_events, events_from, changes, logs, event_logs, history}
 use Rattle.word_bits.proofs.EventCounts.{entry_eq_self, entry_eq_same, count_yes, count_no, count_append, count_both, counted_at, counted_once}
 use Rattle.word_bits.specs.Legal.{IsLegal, IsUnheldReply, IsRecord, AreTaskRecords, AreRecords, seen_after}
-use Rattle.task_script.specs.declared.script.Line.{Line}
 use Rattle.task_script.specs.Scripts.{call_words, is_on}
 use Rattle.mm_report.specs.Merged.{task_lists, position, merged}
 use Rattle.mm_report.specs.Cursors.{HaveRecords}
+use Rattle.mm_report.specs.Types.{CallWords, Entry, Rec, Reply, Good, Num, Refused, MapErr, AccErr, Busy, Intr, Sent, Line}
 use Rattle.mm_report.proofs.Merging.{stands_at, AreSorted, AreNamed, merged_history}
 use Rattle.mm_report.proofs.Reserved.{drop_at}
 

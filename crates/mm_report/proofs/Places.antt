@@ -4,16 +4,14 @@ use Rattle.std.specs.Prelude.{slice_get, filter, count_by}
 use Rattle.std.proofs.lemmas.Option.{same_Some, slice_get-map, slice_get_within}
 use Rattle.std.proofs.lemmas.List.Sums.{length-filter}
 use Rattle.std.proofs.lemmas.Bool.Decides.{nat_tests}
-use Rattle.word_bits.specs.declared.call.CallWords.{CallWords}
-use Rattle.word_bits.specs.declared.rec.Rec.{Rec}
 use Rattle.word_bits.specs.Histories.{task_events}
-use Rattle.task_script.specs.declared.script.Line.{Line}
 use Rattle.task_script.specs.Scripts.{call_words, is_on}
 use Rattle.word_bits.specs.RecWord.{IsRec, rec_word}
 use Rattle.word_bits.proofs.EventCounts.{count_cons}
 use Rattle.task_script.proofs.Mapped.{mapped_at}
 use Rattle.mm_report.specs.Text.{number_of}
 use Rattle.mm_report.specs.Cursors.{HasRecords, calls_before, events_of}
+use Rattle.mm_report.specs.Types.{CallWords, Rec, Line}
 use Rattle.task_script.proofs.Mapped.{at_place}
 
 -- one more element in front, kept or dropped, moves a place

@@ -4,15 +4,13 @@ use Rattle.std.specs.Prelude.{filter, slice_get}
 use Rattle.std.proofs.lemmas.Bool.{cases_lt, eq-eqb}
 use Rattle.std.proofs.lemmas.List.Elements.{filter-append}
 use Rattle.std.proofs.lemmas.Option.{same_Some}
-use Rattle.word_bits.specs.declared.call.CallWords.{CallWords}
-use Rattle.word_bits.specs.declared.entry.Entry.{Entry}
-use Rattle.word_bits.specs.declared.rec.Rec.{Rec}
 use Rattle.word_bits.specs.LockWords.{Unavailable}
 use Rattle.word_bits.specs.Objects.{Obj}
 use Rattle.word_bits.specs.Histories.{Plan, Records, Event, at_entry, task_events, events_from}
 use Rattle.word_bits.specs.Legal.{AreRecords}
 use Rattle.mm_report.specs.Merged.{position}
 use Rattle.mm_report.specs.Orders.{Before, KeepsPositions}
+use Rattle.mm_report.specs.Types.{CallWords, Entry, Rec}
 use Rattle.mm_report.proofs.Merging.{stands_at, at_positions, stands_so}
 use Rattle.mm_report.proofs.Ordered.{all_middle, all_append, named}
 use Rattle.mm_report.proofs.Order.{AllBelow, task_below}

@@ -9,11 +9,7 @@ use Rattle.std.proofs.lemmas.Bool.{and_from}
 use Rattle.std.proofs.lemmas.Bool.Decides.{nat_tests}
 use Rattle.std.proofs.lemmas.Fmt.{decimal_injective}
 use Rattle.std.proofs.lemmas.List.Folds.{list_all-append}
-use Rattle.word_bits.specs.declared.call.CallWords.{CallWords}
-use Rattle.word_bits.specs.declared.reply.Errno.{Errno}
-use Rattle.word_bits.specs.declared.reply.Errno.TheVariants.{BadF, NoMem, Exist, Inval, MFile, Fault}
-use Rattle.word_bits.specs.declared.reply.Reply.{Reply}
-use Rattle.word_bits.specs.declared.reply.Reply.TheVariants.{Good, Num, Refused, MapErr, AccErr, Busy, Intr, Sent}
+use Rattle.word_bits.specs.declared.reply.Errno.TheVariants.{Fault}
 use Rattle.word_bits.specs.RecWord.{value_of}
 use Rattle.task_script.specs.Tokens.{number}
 use Rattle.task_script.specs.Texts.{call_text}
@@ -22,6 +18,7 @@ use Rattle.task_script.proofs.Splitting.{list_all-weaker}
 use Rattle.task_script.proofs.Inner.{BeginsWithDigit, decimal_begins, decimal_inner, call_inner}
 use Rattle.mm_report.specs.Text.{reply_text, event_line}
 use Rattle.mm_report.specs.Telling.{LineTellsCall}
+use Rattle.mm_report.specs.Types.{CallWords, Errno, BadF, NoMem, Exist, Inval, MFile, Reply, Good, Num, Refused, MapErr, AccErr, Busy, Intr, Sent}
 use Rattle.mm_report.proofs.LineTexts.{is_not, no_equals, reply_in_line, same_front}
 
 begins_with_digit : List ℕ → Bool

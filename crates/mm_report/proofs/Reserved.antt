@@ -4,10 +4,10 @@ use Rattle.std.specs.Prelude.{slice_get, sum_by}
 use Rattle.std.proofs.lemmas.Option.{slice_get_within, get_or_from_slice_get, same_Some}
 use Rattle.std.proofs.lemmas.List.Sums.{sum_by_more}
 use Rattle.word_bits.specs.Snapshots.{Words, no_words}
-use Rattle.task_script.specs.declared.script.Line.{Line}
 use Rattle.mm_report.specs.Text.{task_lines}
 use Rattle.task_script.specs.Scripts.{Declared, Listing, kinds_of}
 use Rattle.mm_report.specs.Results.{empty_from, calls_on, words_of_kind}
+use Rattle.mm_report.specs.Types.{Line}
 
 -- one more element is summed
 pub more_sum : {X : Type 0} (f : X → ℕ) (xs : List X) (i : ℕ) (x : X) → slice_get xs i ≡ Some x → sum_by f (take (i + 1) xs) ≡ sum_by f (take i xs) + f x

@@ -7,9 +7,9 @@ use Rattle.std.proofs.lemmas.Bool.Decides.{nat_tests}
 use Rattle.std.proofs.lemmas.Grind.{get_or-set_at}
 use Rattle.std.proofs.lemmas.List.{get_or-set_other}
 use Rattle.std.proofs.lemmas.List.Sums.{count_by_more_yes, count_by_more_no}
-use Rattle.task_script.specs.declared.script.Line.{Line}
 use Rattle.task_script.specs.Scripts.{is_on}
 use Rattle.mm_report.specs.Results.{AddsCalls}
+use Rattle.mm_report.specs.Types.{Line}
 
 -- one more call is counted on its object
 pub one_more_call : (lines : List Line) (i : ℕ) (d : Line) (old now : List ℕ) (count : ℕ) → i < length lines → length now ≡ 32 → (get_or lines i d).object < 32 → count ≡ get_or now (get_or lines i d).object 0 + 1 → AddsCalls (take i lines) old now

@@ -9,12 +9,9 @@ use Rattle.std.proofs.lemmas.Bool.Decides.{nat_tests}
 use Rattle.std.proofs.lemmas.List.{length-map, length-take, get_or-take, get_or-set_other}
 use Rattle.std.proofs.lemmas.List.Sums.{sum_by-cons}
 use Rattle.std.proofs.lemmas.Grind.{flat_map-append, get_or-set_at}
-use Rattle.word_bits.specs.declared.call.CallWords.{CallWords}
-use Rattle.word_bits.specs.declared.rec.Rec.{Rec}
 use Rattle.word_bits.specs.RecWord.{IsRec, rec_word}
 use Rattle.word_bits.specs.Objects.{Obj}
 use Rattle.word_bits.specs.Histories.{Plan, Records, Event, task_events}
-use Rattle.task_script.specs.declared.script.Line.{Line}
 use Rattle.byte_streams.specs.Causes.{Fronts, IsOnItsWay}
 use Rattle.task_script.specs.Scripts.{Listing, call_words, is_on, plan_of}
 use Rattle.byte_streams.proofs.Pieces.{flat_map_split}
@@ -22,6 +19,7 @@ use Rattle.mm_report.specs.declared.cursor.Cursor.{Cursor}
 use Rattle.mm_report.specs.Text.{event_text}
 use Rattle.mm_report.specs.Merged.{front, behind, merged, task_lists, NextFrom}
 use Rattle.mm_report.specs.Cursors.{no_cursor, earliest, first_record, HasRecords, HaveRecords, AreRead, IsAt, AreAt, IsOneBelow}
+use Rattle.mm_report.specs.Types.{CallWords, Rec, Line}
 use Rattle.mm_report.proofs.Merging.{AreFrom, OthersFrom, merged_at_once}
 use Rattle.mm_report.proofs.Remaining.{Remains, remains_all, remains_added, remains_failed, remains_none}
 

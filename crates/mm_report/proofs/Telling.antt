@@ -5,9 +5,6 @@ use Rattle.std.specs.Char.{is_ascii_digit}
 use Rattle.std.specs.List.{AllByRecursion, range_with_len}
 use Rattle.std.proofs.lemmas.List.{append_cancel_left}
 use Rattle.std.proofs.lemmas.List.Folds.{flat_map-map}
-use Rattle.word_bits.specs.declared.area.Area.{Area}
-use Rattle.word_bits.specs.declared.call.CallWords.{CallWords}
-use Rattle.word_bits.specs.declared.reply.Reply.{Reply}
 use Rattle.word_bits.specs.Histories.{Event, history, state_after}
 use Rattle.word_bits.specs.PageMaps.{PageMap, runs}
 use Rattle.vma_map.specs.Spaces.{space}
@@ -20,6 +17,7 @@ use Rattle.mm_report.specs.Results.{Told}
 use Rattle.mm_report.specs.Text.{reply_text, event_line, event_text, number_of, task_lines, area_text, left_text, descriptor_text, descriptors_text, space_text, table_text, told_text}
 use Rattle.mm_report.specs.Reports.{report_from}
 use Rattle.mm_report.specs.Telling.{lines_told, state_told, TellTheSame, TextDeterminesHistories}
+use Rattle.mm_report.specs.Types.{Area, CallWords, Reply}
 
 -- ---- lines
 

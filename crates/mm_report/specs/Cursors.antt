@@ -1,14 +1,13 @@
 -- How far the calls of each task on an object are told.
 use Rattle.std.specs.Prelude.{◌≡◌, ℕ, ◌+◌, ◌<◌, ◌≤◌, List, [], ◌∷◌, ◌++◌, length, take, drop, map, filter, flat_map, sum_by, count_by, slice_get, get_or, Option, Some, None}
 use Rattle.std.specs.List.{AllByRecursion}
-use Rattle.word_bits.specs.declared.rec.Rec.{Rec}
 use Rattle.word_bits.specs.RecWord.{IsRec, rec_word}
 use Rattle.word_bits.specs.Objects.{Obj}
 use Rattle.word_bits.specs.Histories.{Records, Event, task_events}
-use Rattle.task_script.specs.declared.script.Line.{Line}
 use Rattle.task_script.specs.Scripts.{Listing, call_words, is_on}
 use Rattle.mm_report.specs.declared.cursor.Cursor.{Cursor}
 use Rattle.mm_report.specs.Merged.{NextFrom}
+use Rattle.mm_report.specs.Types.{Rec, Line}
 
 -- before any line, and before any call
 abbrev pub at_start : Cursor

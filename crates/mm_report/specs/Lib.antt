@@ -1,3 +1,4 @@
+pub mod Types
 pub mod Results
 pub mod Text
 pub mod ResultsLending

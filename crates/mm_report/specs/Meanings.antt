@@ -1,20 +1,13 @@
 -- What the words of a script's calls mean to the objects.
 use Rattle.std.specs.Prelude.{◌≡◌, ℕ, ◌<◌, Bool, true, false, List, [], ◌∷◌, ◌++◌, flat_map, Some, Ok, codes, decimal}
-use Rattle.word_bits.specs.declared.call.CallWords.{CallWords}
-use Rattle.word_bits.specs.declared.call.Mode.{Mode}
-use Rattle.word_bits.specs.declared.call.Mode.TheVariants.{Plain}
+use Rattle.mm_report.specs.Types.{CallWords, Mode, Plain, SpaceCall, Map, MapAny, MapNew, Unmap, Protect, Populate, Remap, TableCall, Open, Close, Dup, Dup2, Get, Version, Two}
 use Rattle.word_bits.specs.Calls.{mode_of, signal_of}
 use Rattle.word_bits.specs.Objects.{Obj}
 use Rattle.vma_map.specs.Spaces.{space}
-use Rattle.vma_map.specs.declared.call.SpaceCall.{SpaceCall}
-use Rattle.vma_map.specs.declared.call.SpaceCall.TheVariants.{Map, MapAny, MapNew, Unmap, Protect, Populate, Fault, Remap}
+use Rattle.vma_map.specs.declared.call.SpaceCall.TheVariants.{Fault}
 use Rattle.fd_table.specs.Tables.{table}
-use Rattle.fd_table.specs.declared.call.TableCall.{TableCall}
-use Rattle.fd_table.specs.declared.call.TableCall.TheVariants.{Open, Close, Dup, Dup2, Get}
 use Rattle.task_script.specs.Texts.{prot_text, access_text, verb_and_arguments}
 use Rattle.task_script.specs.Verbs.{call_on}
-use Rattle.task_script.specs.declared.version.Version.{Version}
-use Rattle.task_script.specs.declared.version.Version.TheVariants.{Two}
 use Rattle.task_script.specs.Versions.{most_tasks}
 
 -- in a script of this version, and in this mode, a name with these arguments is kept as these words, and they are told by the same name and arguments

@@ -1,11 +1,11 @@
 -- In what order a history has its calls.
 use Rattle.std.specs.Prelude.{◌≡◌, ℕ, ◌==◌, ◌<◌, Bool, List, [], ◌∷◌, ◌++◌, filter, slice_index_or, Some}
-use Rattle.word_bits.specs.declared.entry.Entry.{Entry}
 use Rattle.word_bits.specs.LockWords.{Unavailable}
 use Rattle.word_bits.specs.Objects.{Obj}
 use Rattle.word_bits.specs.Histories.{Plan, Records, Event, at_entry, task_events, history}
 use Rattle.word_bits.specs.Legal.{IsLegal}
 use Rattle.mm_report.specs.Merged.{position}
+use Rattle.mm_report.specs.Types.{Entry}
 
 -- the call is one of this task
 abbrev pub is_of : ℕ → Event → Bool

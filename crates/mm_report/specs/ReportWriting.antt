@@ -1,11 +1,9 @@
 -- What is written of histories, and where the cursors stand then, whatever the records are.
 use Rattle.std.specs.Prelude.{◌≡◌, ℕ, ◌+◌, ◌*◌, Bool, List, length, map, flat_map, slice_get, Some, Option, Result, OnOk}
-use Rattle.word_bits.specs.declared.rec.Rec.{Rec}
 use Rattle.word_bits.specs.Objects.{Obj}
 use Rattle.word_bits.specs.Snapshots.{Words}
 use Rattle.word_bits.specs.Histories.{Records, Event}
 use Rattle.word_bits.specs.Legal.{Tells}
-use Rattle.task_script.specs.declared.script.Line.{Line}
 use Rattle.byte_streams.specs.Causes.{Adds, Puts}
 use Rattle.task_script.specs.Scripts.{Declared, Listing, plan_of}
 use Rattle.mm_report.specs.declared.cursor.Cursor.{Cursor}
@@ -14,6 +12,7 @@ use Rattle.mm_report.specs.Merged.{front, behind, merged, task_lists}
 use Rattle.mm_report.specs.Reports.{report_of}
 use Rattle.mm_report.specs.Results.{Told, IsLegalOn, AreLegal}
 use Rattle.mm_report.specs.Text.{event_text, task_event_text}
+use Rattle.mm_report.specs.Types.{Rec, Line}
 
 module _ {Call : Type 0} (o : Obj Call) where
   -- of the calls on the object, those up to a position

@@ -1,13 +1,12 @@
 -- The results of a script: what each of its objects leaves.
 use Rattle.std.specs.Prelude.{◌≡◌, ℕ, ◌+◌, ◌<◌, Bool, true, false, List, [], ◌∷◌, length, sum_by, count_by, get_or}
-use Rattle.word_bits.specs.declared.entry.Entry.{Entry}
+use Rattle.mm_report.specs.Types.{Entry, Line}
 use Rattle.word_bits.specs.LockWords.{counted, owned}
 use Rattle.word_bits.specs.Snapshots.{Words, no_words}
 use Rattle.word_bits.specs.Histories.{Plan, Records}
 use Rattle.word_bits.specs.Legal.{IsLegal, Tells}
 use Rattle.vma_map.specs.Spaces.{space}
 use Rattle.fd_table.specs.Tables.{table}
-use Rattle.task_script.specs.declared.script.Line.{Line}
 use Rattle.task_script.specs.Scripts.{Declared, Listing, plan_of, is_on}
 
 -- how many words store the state of an object

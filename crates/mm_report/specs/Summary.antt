@@ -1,15 +1,12 @@
 -- The summary of an object's history: its numbers in one line.
 use Rattle.std.specs.Prelude.{ℕ, Bool, true, false, List, ◌++◌, length, sum_by, count_by, codes, decimal}
-use Rattle.word_bits.specs.declared.entry.Entry.{Entry}
-use Rattle.word_bits.specs.declared.rec.Rec.{Rec}
-use Rattle.word_bits.specs.declared.reply.Reply.{Reply}
-use Rattle.word_bits.specs.declared.reply.Reply.TheVariants.{Refused, MapErr, AccErr}
 use Rattle.word_bits.specs.Histories.{Plan, Records, state_after}
 use Rattle.word_bits.specs.PageMaps.{runs}
 use Rattle.vma_map.specs.Spaces.{space}
 use Rattle.fd_table.specs.Tables.{table, used_from}
 use Rattle.mm_report.specs.declared.summary.Counts.{Counts}
 use Rattle.mm_report.specs.Results.{Told}
+use Rattle.mm_report.specs.Types.{Entry, Rec, Reply, Refused, MapErr, AccErr}
 
 -- an error, or an access that isn't admitted; a call that was kept off its object isn't refused
 abbrev pub is_refusal : Reply → Bool

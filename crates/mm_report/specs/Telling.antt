@@ -1,7 +1,5 @@
 -- That the text of a script's histories tells them.
 use Rattle.std.specs.Prelude.{◌≡◌, ℕ, ◌+◌, ◌^◌, ◌<◌, Bool, true, false, List, [], ◌∷◌, map}
-use Rattle.word_bits.specs.declared.call.CallWords.{CallWords}
-use Rattle.word_bits.specs.declared.reply.Reply.{Reply}
 use Rattle.word_bits.specs.Histories.{history, state_after}
 use Rattle.word_bits.specs.RecWord.{value_of}
 use Rattle.vma_map.specs.Spaces.{space}
@@ -10,6 +8,7 @@ use Rattle.task_script.specs.Scripts.{Declared, Listing, plan_of}
 use Rattle.mm_report.specs.Results.{Told}
 use Rattle.mm_report.specs.Text.{event_line, event_text, space_text, table_text}
 use Rattle.mm_report.specs.Reports.{report_of}
+use Rattle.mm_report.specs.Types.{CallWords, Reply}
 
 -- the lines of an object's history
 abbrev pub lines_told : Listing → ℕ → (is_space : Bool) → Told → List (List ℕ)

@@ -1,21 +1,16 @@
 -- The text of a script's histories and of the states that they leave.
 use Rattle.std.specs.Prelude.{ℕ, ◌+◌, ◌-◌, ◌==◌, zero, suc, Bool, true, false, List, [], ◌∷◌, ◌++◌, length, flat_map, if◌then◌else◌, Option, Some, None, codes, decimal}
 use Rattle.std.specs.List.{range_with_len}
-use Rattle.word_bits.specs.declared.area.Area.{Area}
-use Rattle.word_bits.specs.declared.call.CallWords.{CallWords}
-use Rattle.word_bits.specs.declared.reply.Errno.{Errno}
-use Rattle.word_bits.specs.declared.reply.Errno.TheVariants.{BadF, NoMem, Exist, Inval, MFile, Fault}
-use Rattle.word_bits.specs.declared.reply.Reply.{Reply}
-use Rattle.word_bits.specs.declared.reply.Reply.TheVariants.{Good, Num, Refused, MapErr, AccErr, Busy, Intr, Sent}
+use Rattle.word_bits.specs.declared.reply.Errno.TheVariants.{Fault}
 use Rattle.word_bits.specs.Histories.{Event, history, state_after}
 use Rattle.word_bits.specs.PageMaps.{PageMap, runs}
 use Rattle.word_bits.specs.Objects.{Obj}
 use Rattle.vma_map.specs.Spaces.{space}
 use Rattle.fd_table.specs.Tables.{FdMap, table, used_from}
-use Rattle.task_script.specs.declared.script.Line.{Line}
 use Rattle.task_script.specs.Scripts.{Listing, plan_of, is_on}
 use Rattle.task_script.specs.Texts.{call_text, prot_text}
 use Rattle.mm_report.specs.Results.{Told}
+use Rattle.mm_report.specs.Types.{Area, CallWords, Errno, BadF, NoMem, Exist, Inval, MFile, Reply, Good, Num, Refused, MapErr, AccErr, Busy, Intr, Sent, Line}
 
 -- an error's name
 abbrev pub errno_text : Errno → List ℕ

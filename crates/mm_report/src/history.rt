@@ -4,13 +4,13 @@
 //! how many entries stand before it. So the records of all tasks are merged by where they stand,
 //! and of the log only the length is wanted.
 ghost use Rattle.std.specs.Prelude.{◌≡◌, ◌<◌, ◌≤◌, length, slice_get, Some, IsSome};
-ghost use Rattle.word_bits.specs.declared.rec.Rec.{Rec};
 ghost use Rattle.word_bits.specs.RecWord.{IsRec, rec_word};
 ghost use Rattle.byte_streams.specs.Causes.{CountsFailure, Adds};
 ghost use Rattle.mm_report.specs.Results.{calls_on};
 ghost use Rattle.mm_report.specs.Text.{event_line};
 ghost use Rattle.mm_report.specs.Merged.{position as where_it_stands};
 ghost use Rattle.mm_report.specs.ReportWriting.{WritesCalls, WritesTask, WritesTasks, WritesHistory, PassesCalls, PassesTask, PassesTasks};
+ghost use Rattle.mm_report.specs.Types.{Rec};
 
 use crate::cursor::{Cursor, first_cursors, next_bound};
 use crate::line::add_event;

@@ -1,10 +1,10 @@
 //! What each object of a script leaves.
 ghost use Rattle.std.specs.Prelude.{◌≡◌, ◌<◌, ◌≤◌, length, slice_get, Some, IfOk, ℕ, List, OnOk, count_by, get_or};
 ghost use Rattle.task_script.specs.Scripts.{is_on};
-ghost use Rattle.task_script.specs.declared.script.Line.{Line};
 ghost use Rattle.mm_report.specs.Results.{AddsCalls, empty_results, calls_on, words_of_kind};
 ghost use Rattle.std.specs.Borrow.{sem};
 ghost use Rattle.mm_report.specs.ResultsLending.{LendsSnapshot};
+ghost use Rattle.mm_report.specs.Types.{Line};
 
 use fd_table::Fds;
 use std::alloc::{AllocError, Global};

@@ -1,7 +1,6 @@
 //! The summary of an object's history.
 ghost use Rattle.std.specs.Prelude.{◌≡◌, ◌<◌, ◌∷◌, ℕ, List, count_by, length, map, true};
 ghost use Rattle.std.specs.List.{AllByRecursion};
-ghost use Rattle.word_bits.specs.declared.rec.Rec.{Rec};
 ghost use Rattle.word_bits.specs.Histories.{Plan};
 ghost use Rattle.word_bits.specs.Legal.{Tells};
 ghost use Rattle.word_bits.specs.RecWord.{IsRec, rec_word};
@@ -11,6 +10,7 @@ ghost use Rattle.mm_report.specs.Results.{Told, IsLegalOn};
 ghost use Rattle.mm_report.specs.Reports.{object_report};
 ghost use Rattle.mm_report.specs.Summary.{counts_of, is_refused};
 ghost use Rattle.mm_report.specs.ReportWriting.{WritesObject};
+ghost use Rattle.mm_report.specs.Types.{Rec};
 
 use crate::line::add_summary;
 use byte_streams::{Failed, Outbox, Sink};

@@ -2,7 +2,6 @@
 use Rattle.std.proofs.Common.{ℕ, false, List, [], ◌∷◌, sym, subst}
 use Rattle.word_bits.specs.Objects.{Obj}
 use Rattle.word_bits.specs.Histories.{Plan}
-use Rattle.lock_core.specs.declared.view.Moment.{Moment}
 use Rattle.lock_core.specs.Causes.{HasCause}
 use Rattle.lock_core.specs.Kinds.{Kind, unavailable}
 use Rattle.lock_core.specs.Locked.{IsLockedThen, IsSiteStep}
@@ -10,6 +9,7 @@ use Rattle.lock_core.specs.Pasts.{BeganWith, EachMoment, Paced}
 use Rattle.lock_core.specs.SiteStated.{IsSiteThen}
 use Rattle.lock_core.proofs.Causing.{calls_have_causes}
 use Rattle.mm_serve.specs.CallCauses.{RecalledCauses}
+use Rattle.mm_serve.specs.Types.{Moment}
 use Rattle.mm_serve.proofs.RealTime.{recorded_now}
 
 pub recalled_causes : {Call : Type 0} (o : Obj Call) (kind : Kind) (size word_at : ℕ) (waits : Plan → Moment → List ℕ → Type 0) (opened : Plan → Moment) → RecalledCauses o kind size word_at waits opened

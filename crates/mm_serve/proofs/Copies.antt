@@ -4,8 +4,6 @@ use Rattle.std.proofs.lemmas.List.{get_or-set_same, get_or-set_other}
 use Rattle.word_bits.specs.Snapshots.{Words}
 use Rattle.word_bits.specs.Histories.{Plan}
 use Rattle.guarded.specs.ObjectCopying.{AreKnown, HeldAlone}
-use Rattle.lock_core.specs.declared.view.Hand.{Hand}
-use Rattle.lock_core.specs.declared.view.Moment.{Moment}
 use Rattle.lock_core.specs.Pasts.{GoesOn}
 use Rattle.lock_core.proofs.RowLaws.{none-some, same-some, get-there, some-inside}
 use Rattle.task_script.specs.Scripts.{Declared, Listing, plan_of}
@@ -14,6 +12,7 @@ use Rattle.mm_serve.specs.MachineHistories.{IsKnownHistoryOn}
 use Rattle.mm_serve.specs.Workers.{EachOf}
 use Rattle.mm_serve.specs.MachineCopying.{IsCopied, IsToCopy, WasHeldWith, blank}
 use Rattle.mm_serve.specs.Machines.{AreAllKnown, staffed}
+use Rattle.mm_serve.specs.Types.{Hand, Moment}
 use Rattle.mm_serve.proofs.Each.{Between, each-set, between-at}
 use Rattle.mm_serve.proofs.Gathers.{get-some}
 use Rattle.mm_serve.proofs.Staffed.{Known, unstaffed, records-many}

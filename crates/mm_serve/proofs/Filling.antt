@@ -6,15 +6,14 @@ use Rattle.std.proofs.lemmas.List.Sums.{fold_more}
 use Rattle.std.proofs.Math.ListN.{length-set}
 use mathlib.Core.Logic.{dite}
 use native.Mathlib.Decide.{ℕ_discrete}
-use Rattle.word_bits.specs.declared.call.CallWords.{CallWords}
 use Rattle.word_bits.specs.Histories.{Plan}
 use Rattle.lock_core.specs.Plans.{appended, calls_in}
 use Rattle.lock_core.specs.Records.{row}
 use Rattle.lock_core.proofs.RowLaws.{none-some, same-some, row-appended, row-beside, length-appended, calls_in-appended}
-use Rattle.task_script.specs.declared.script.Line.{Line}
 use Rattle.task_script.specs.Scripts.{Listing, call_words, is_on, plan_of}
 use Rattle.mm_serve.specs.Machines.{staffed}
 use Rattle.mm_serve.specs.ObjectsOpening.{AddsLines, HaveRoom, HaveTask, with_line}
+use Rattle.mm_serve.specs.Types.{CallWords, Line}
 use Rattle.mm_serve.proofs.Turns.{is-on, is-off}
 
 -- the calls of the lines that are on the object

@@ -3,8 +3,6 @@ use Rattle.std.proofs.Common.{◌≡◌, ℕ, ◌<◌, ◌≤◌, suc, zero, Lis
 use Rattle.std.specs.Prelude.{slice_index_or, slice_get, Some}
 use Rattle.std.proofs.lemmas.List.{get_or_default}
 use Rattle.word_bits.specs.Histories.{Plan}
-use Rattle.lock_core.specs.declared.view.Hand.{Hand}
-use Rattle.lock_core.specs.declared.view.Moment.{Moment}
 use mathlib.Core.Logic.{dite}
 use native.Mathlib.Decide.{ℕ_discrete}
 use Rattle.lock_core.proofs.RowLaws.{get-there, none-some, same-some}
@@ -12,6 +10,7 @@ use Rattle.mm_serve.specs.declared.worker.Worker.{Worker}
 use Rattle.mm_serve.specs.Workers.{EachOf, KnowsMore, HaveGathered, HaveDoneTheirTasks, KnowsFrom, AreNumbered, KnowsAllDone, TakesUp}
 use Rattle.mm_serve.specs.MachineHistories.{HasDoneOn}
 use Rattle.mm_serve.specs.MachineQueues.{GoesBackToTask, GoesBackToTasks}
+use Rattle.mm_serve.specs.Types.{Hand, Moment}
 use Rattle.mm_serve.proofs.Each.{each-set, each-at, each-map}
 
 pub get-some : {X : Type 0} (xs : List X) (n : ℕ) (x : X) → slice_get xs n ≡ Some x → get_or xs n x ≡ x

@@ -9,7 +9,6 @@ use Rattle.lock_core.specs.Plans.{calls_in}
 use Rattle.lock_core.proofs.RowLaws.{none-some, same-some, get-there, some-inside}
 use Rattle.word_bits.specs.Snapshots.{Words, no_words}
 use Rattle.mm_report.specs.Results.{calls_on, empty_from, empty_results, words_of_kind}
-use Rattle.task_script.specs.declared.script.Line.{Line}
 use Rattle.task_script.specs.Scripts.{Declared, Listing, is_on, kinds_of, plan_of}
 use Rattle.mm_serve.specs.declared.worker.Worker.{Worker}
 use Rattle.mm_serve.specs.MachineCopying.{AreBlank}
@@ -18,6 +17,7 @@ use Rattle.task_script.specs.Sound.{IsSound}
 use Rattle.mm_serve.specs.MachineHistories.{IsPlanOn}
 use Rattle.mm_serve.specs.Machines.{AreSitesOf, staffed}
 use Rattle.mm_serve.specs.ObjectsOpening.{ArePlansOf}
+use Rattle.mm_serve.specs.Types.{Line}
 use Rattle.mm_serve.specs.Workers.{EachOf, AreNumbered, calls_to}
 use Rattle.mm_serve.proofs.Filling.{calls_of, staffed-row}
 use Rattle.mm_serve.proofs.Planned.{planned_on}

@@ -4,7 +4,6 @@ use Rattle.word_bits.specs.LockWords.{Unavailable}
 use Rattle.word_bits.specs.Objects.{Obj}
 use Rattle.word_bits.specs.Snapshots.{Words}
 use Rattle.word_bits.specs.Histories.{Plan}
-use Rattle.lock_core.specs.declared.view.Hand.{Hand}
 use Rattle.lock_core.specs.Records.{row}
 use Rattle.lock_core.specs.Views.{gave_up}
 use Rattle.lock_core.specs.SitePasses.{Numbered}
@@ -15,6 +14,7 @@ use Rattle.guarded.specs.ObjectCopying.{IsKnownHistory}
 use Rattle.guarded.specs.Gathering.{HasDoneAll, HasDoneSoFar, DoesOneMore, KeepsDone}
 use Rattle.guarded.proofs.Chained.{none-done}
 use Rattle.mm_serve.specs.TaskServing.{AllTasksDone, IsIdle, IsQuiet, IsServing}
+use Rattle.mm_serve.specs.Types.{Hand}
 
 -- a pass that has another's hand but for the fields that say nothing of what it owes
 still-quiet : (h g : Hand) → g.held ≡ h.held → g.sent ≡ h.sent → g.consumed ≡ h.consumed → IsQuiet h → IsQuiet g

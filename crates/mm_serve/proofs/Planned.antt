@@ -4,31 +4,24 @@ use Rattle.std.specs.Prelude.{◌⊎◌, filter, slice_get}
 use Rattle.std.specs.List.{AllByRecursion}
 use Rattle.std.proofs.lemmas.Bool.Decides.{nat_tests}
 use Rattle.std.proofs.lemmas.Option.{same_Some}
-use Rattle.word_bits.specs.declared.call.CallWords.{CallWords}
 use Rattle.word_bits.specs.declared.TheConstants.{MAX_TASKS}
 use Rattle.word_bits.specs.CallKinds.{kind_number}
 use Rattle.word_bits.specs.Calls.{first_in, mode_number, words_of, with_third}
 use Rattle.word_bits.specs.Histories.{Plan}
 use Rattle.word_bits.proofs.CallParts.{unthirded}
-use Rattle.vma_map.specs.declared.call.SpaceCall.{SpaceCall}
-use Rattle.vma_map.specs.declared.call.SpaceCall.TheVariants.{Map, MapAny, MapNew, Unmap, Protect, Populate, Fault, Remap}
 use Rattle.vma_map.specs.Spaces.{space, IsCall as IsSpaceCall, IsCallOf as IsSpaceCallOf, words_of_call as space_words_of}
 use Rattle.vma_map.specs.Laws.SpaceCall.{call_of-complete as space_call_of}
-use Rattle.fd_table.specs.declared.call.TableCall.{TableCall}
-use Rattle.fd_table.specs.declared.call.TableCall.TheVariants.{Open, Close, Dup, Dup2, Get}
 use Rattle.fd_table.specs.Tables.{table, IsCall as IsTableCall, IsCallOf as IsTableCallOf, words_of_call as table_words_of}
 use Rattle.fd_table.specs.Laws.TableCall.{call_of-complete as table_call_of}
 use Rattle.lock_core.specs.Records.{row, IsCallOrSignal}
 use Rattle.lock_core.proofs.RowLaws.{none-some, same-some}
-use Rattle.task_script.specs.declared.script.Line.{Line}
-use Rattle.task_script.specs.declared.version.Version.{Version}
-use Rattle.task_script.specs.declared.version.Version.TheVariants.{One, Two}
 use Rattle.task_script.specs.Scripts.{Declared, Listing, call_words, is_on, plan_of}
 use Rattle.task_script.specs.Sound.{IsCall, IsLine, IsSound, only}
 use Rattle.task_script.specs.Verbs.{arguments_of}
 use Rattle.task_script.specs.Versions.{most_tasks}
 use Rattle.mm_serve.specs.MachineHistories.{IsPlanOn}
 use Rattle.mm_serve.specs.Machines.{staffed}
+use Rattle.mm_serve.specs.Types.{CallWords, SpaceCall, Map, MapAny, MapNew, Unmap, Protect, Populate, Fault, Remap, TableCall, Open, Close, Dup, Dup2, Get, Line, Version, One, Two}
 
 -- the tasks of a script are among those of a table
 few_tasks : (version : Version) (task : ℕ) → task < most_tasks version → task < MAX_TASKS

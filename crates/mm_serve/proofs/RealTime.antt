@@ -4,16 +4,10 @@ use Rattle.std.proofs.lemmas.Bool.{cases_lt}
 use Rattle.std.proofs.lemmas.List.{length-drop, get_or-set_other}
 use mathlib.Core.Logic.{dite}
 use native.Mathlib.Decide.{ℕ_discrete}
-use Rattle.word_bits.specs.declared.call.CallWords.{CallWords}
-use Rattle.word_bits.specs.declared.rec.Rec.{Rec}
-use Rattle.word_bits.specs.declared.reply.Reply.{Reply}
-use Rattle.word_bits.specs.declared.reply.Reply.TheVariants.{Good, Num, Refused, MapErr, AccErr, Busy, Intr, Sent}
 use Rattle.word_bits.specs.RecWord.{rec_word}
 use Rattle.word_bits.specs.LockWords.{Unavailable}
 use Rattle.word_bits.specs.Objects.{Obj, IsObjectReply}
 use Rattle.word_bits.specs.Histories.{Plan, Records, Event, at_entry, changes, logs, history}
-use Rattle.lock_core.specs.declared.view.Hand.{Hand}
-use Rattle.lock_core.specs.declared.view.Moment.{Moment}
 use Rattle.lock_core.specs.Causes.{IsRecordedThen}
 use Rattle.lock_core.specs.Kinds.{Kind, unavailable}
 use Rattle.lock_core.specs.Layout.{site}
@@ -34,6 +28,7 @@ use Rattle.mm_report.specs.Orders.{IsEventOf, Before}
 use Rattle.mm_report.proofs.Positions.{keeps_positions}
 use Rattle.mm_serve.specs.MachinePasts.{KnowsPast}
 use Rattle.mm_serve.specs.RealTimeOrder.{HasTakenEffect, TookEffectBefore, ReadAtOnePlace, KeepsRealTimeOrder, WasRecordedBefore, RecalledInRealTimeOrder}
+use Rattle.mm_serve.specs.Types.{CallWords, Rec, Reply, Good, Num, Refused, MapErr, AccErr, Busy, Intr, Sent, Hand, Moment}
 
 module _ {Call : Type 0} (o : Obj Call) (size : ℕ) (k : Plan) (new : Moment) where
   -- the past up to one of its moments is linear too, and began with the same moment

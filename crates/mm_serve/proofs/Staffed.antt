@@ -4,9 +4,6 @@ use Rattle.std.specs.Prelude.{◌&&◌, count_by, filter, flat_map, fold, sum_by
 use Rattle.std.specs.Option.{option_and_then}
 use Rattle.std.proofs.lemmas.List.{length-map}
 use Rattle.std.proofs.lemmas.List.Sums.{sum_by-cons, length-filter}
-use Rattle.word_bits.specs.declared.call.CallWords.{CallWords}
-use Rattle.word_bits.specs.declared.entry.Entry.{Entry}
-use Rattle.word_bits.specs.declared.rec.Rec.{Rec}
 use Rattle.word_bits.specs.LockWords.{Unavailable, counted, owned}
 use Rattle.word_bits.specs.Objects.{Obj}
 use Rattle.word_bits.specs.RecWord.{rec_word}
@@ -17,14 +14,13 @@ use Rattle.word_bits.specs.Legal.{AreTaskRecords, AreRecords, Tells, seen_after}
 use Rattle.vma_map.specs.Spaces.{space}
 use Rattle.fd_table.specs.Tables.{table}
 use Rattle.guarded.specs.ObjectCopying.{AreKnown, IsKnownHistory}
-use Rattle.lock_core.specs.declared.view.Hand.{Hand}
 use Rattle.lock_core.specs.Plans.{calls_in}
 use Rattle.lock_core.proofs.RowLaws.{none-some}
-use Rattle.task_script.specs.declared.script.Line.{Line}
 use Rattle.task_script.specs.Scripts.{Listing, call_words, is_on, plan_of}
 use Rattle.mm_report.specs.Results.{Told, IsLegalOn, calls_on}
 use Rattle.mm_serve.specs.MachineHistories.{IsKnownHistoryOn}
 use Rattle.mm_serve.specs.Machines.{staffed}
+use Rattle.mm_serve.specs.Types.{CallWords, Entry, Rec, Hand, Line}
 
 -- a history of an object that the words tell, of which the pass knows each record
 pub record Known (is_space : Bool) (k : Plan) (h : Hand) (w : Words) : Type 0 where

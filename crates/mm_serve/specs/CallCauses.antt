@@ -3,13 +3,13 @@ use Rattle.std.specs.Prelude.{ℕ, ◌≤◌, List, length}
 use Rattle.word_bits.specs.declared.TheConstants.{MAX_TASKS}
 use Rattle.word_bits.specs.Objects.{Obj}
 use Rattle.word_bits.specs.Histories.{Plan, Records, Event}
-use Rattle.lock_core.specs.declared.view.Moment.{Moment}
 use Rattle.lock_core.specs.Causes.{HasCause}
 use Rattle.lock_core.specs.Kinds.{Kind}
 use Rattle.lock_core.specs.Shown.{Shown}
 use Rattle.guarded.specs.ObjectCopying.{AreKnown}
 use Rattle.mm_report.specs.Orders.{IsEventOf}
 use Rattle.mm_serve.specs.MachinePasts.{KnowsPast}
+use Rattle.mm_serve.specs.Types.{Moment}
 
 -- A pass that knows each record which is told goes back to the cause of each call that is told: to the failed try, or to the signal that it consumed or sent. What the lock tells of its own isn't
 -- asked for.

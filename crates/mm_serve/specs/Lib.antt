@@ -1,3 +1,4 @@
+pub mod Types
 pub mod CallCauses
 pub mod MachineCopying
 pub mod MachineHistories

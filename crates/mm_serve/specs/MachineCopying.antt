@@ -1,17 +1,15 @@
 -- Objects whose histories are copied one after the other.
 use Rattle.std.specs.Prelude.{◌≡◌, ℕ, Bool, List, length, map, slice_get, slice_index_or, Option, Some}
-use Rattle.word_bits.specs.declared.entry.Entry.{Entry}
 use Rattle.word_bits.specs.EntryWord.{entry_word}
 use Rattle.word_bits.specs.Snapshots.{Words, no_words}
 use Rattle.word_bits.specs.Histories.{Plan}
-use Rattle.lock_core.specs.declared.view.Hand.{Hand}
-use Rattle.lock_core.specs.declared.view.Moment.{Moment}
 use Rattle.lock_core.specs.declared.view.Told.{Told as Known}
 use Rattle.lock_core.specs.Pasts.{GoesOn}
 use Rattle.lock_core.specs.Plans.{calls_in}
 use Rattle.guarded.specs.ObjectCopying.{HeldAlone}
 use Rattle.mm_report.specs.Results.{words_of_kind}
 use Rattle.mm_serve.specs.MachineHistories.{IsKnownHistoryOn}
+use Rattle.mm_serve.specs.Types.{Entry, Hand, Moment}
 use Rattle.mm_serve.specs.Workers.{KnowsAllDone}
 
 -- the words of the log and of the state are those with which a pass held alone without writing, and knew these records, as one of its steps left it in the run up to now

@@ -5,7 +5,7 @@ use Rattle.word_bits.specs.Snapshots.{Words}
 use Rattle.word_bits.specs.Histories.{Plan}
 use Rattle.vma_map.specs.Spaces.{space}
 use Rattle.fd_table.specs.Tables.{table}
-use Rattle.lock_core.specs.declared.view.Hand.{Hand}
+use Rattle.mm_serve.specs.Types.{Hand}
 use Rattle.lock_core.specs.Records.{IsPlan}
 use Rattle.guarded.specs.ObjectCopying.{IsKnownHistory}
 use Rattle.guarded.specs.Gathering.{HasDoneAll}

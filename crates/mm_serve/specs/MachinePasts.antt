@@ -2,7 +2,7 @@
 use Rattle.std.specs.Prelude.{ℕ, List, [], ◌∷◌}
 use Rattle.word_bits.specs.Objects.{Obj}
 use Rattle.word_bits.specs.Histories.{Plan}
-use Rattle.lock_core.specs.declared.view.Moment.{Moment}
+use Rattle.mm_serve.specs.Types.{Moment}
 use Rattle.lock_core.specs.Kinds.{Kind}
 use Rattle.lock_core.specs.Locked.{IsLockedThen, IsSiteStep}
 use Rattle.lock_core.specs.Linear.{IsLinearizable}

@@ -2,12 +2,12 @@
 use Rattle.std.specs.Prelude.{◌≡◌, ℕ, ◌<◌, List, length}
 use Rattle.word_bits.specs.Objects.{Obj}
 use Rattle.word_bits.specs.Histories.{Plan}
-use Rattle.lock_core.specs.declared.view.Moment.{Moment}
 use Rattle.lock_core.specs.Kinds.{Kind, unavailable}
 use Rattle.lock_core.specs.Pasts.{GoesOn}
 use Rattle.lock_core.specs.Records.{row}
 use Rattle.lock_core.specs.Shown.{Shown, IsLatestStep}
 use Rattle.mm_serve.specs.TaskServing.{IsServing}
+use Rattle.mm_serve.specs.Types.{Moment}
 
 -- A pass of the lock which has the task's number, and by whose own last step all the task's calls were recorded. It knows what the lock tells of its spin queue at each moment up to a look there.
 pub record HasLookedBack {Call : Type 0} (o : Obj Call) (kind : Kind) (Sits : Type 0) (tells_queue : Plan → Shown → List Moment → Type 0) (k : Plan) (v : Shown) (spun : List Moment) (t : ℕ) : Type 0

@@ -1,8 +1,7 @@
 -- A space or a table with its passes.
 use Rattle.std.specs.Prelude.{Bool, true, false, List}
 use Rattle.word_bits.specs.Histories.{Plan}
-use Rattle.lock_core.specs.declared.view.Hand.{Hand}
-use Rattle.lock_core.specs.declared.view.Moment.{Moment}
+use Rattle.mm_serve.specs.Types.{Hand, Moment}
 use Rattle.lock_core.specs.Shown.{Shown}
 use Rattle.mm_serve.specs.declared.space_or_table.SpaceOrTable.{SpaceOrTable}
 use Rattle.mm_serve.specs.declared.space_or_table.SpaceOrTable.TheVariants.{Space, Table}

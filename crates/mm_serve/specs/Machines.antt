@@ -3,14 +3,13 @@ use Rattle.std.specs.Prelude.{◌≡◌, ◌≢◌, ℕ, ◌<◌, Bool, List, []
 use Rattle.word_bits.specs.Histories.{Plan}
 use Rattle.word_bits.specs.Snapshots.{Words}
 use Rattle.guarded.specs.ObjectCopying.{AreKnown}
-use Rattle.lock_core.specs.declared.view.Hand.{Hand}
-use Rattle.lock_core.specs.declared.view.Moment.{Moment}
 use Rattle.lock_core.specs.Pasts.{GoesOn}
 use Rattle.mm_report.specs.Results.{Told, AreLegal, AreComplete}
 use Rattle.task_script.specs.Scripts.{Declared, Listing, plan_of}
 use Rattle.mm_serve.specs.declared.machine.Machine.{Machine}
 use Rattle.mm_serve.specs.MachineCopying.{AreBlank, IsCopied, KnowPasts, WasHeldWith}
 use Rattle.mm_serve.specs.MachineQueues.{GoesBackToTasks}
+use Rattle.mm_serve.specs.Types.{Hand, Moment}
 use Rattle.mm_serve.specs.Workers.{EachOf, IsReady, AreNumbered}
 
 -- one task at least, as which the histories are copied

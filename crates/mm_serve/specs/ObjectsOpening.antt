@@ -2,9 +2,9 @@
 use Rattle.std.specs.Prelude.{◌≡◌, ℕ, ◌+◌, ◌<◌, ◌≤◌, List, fold, length, slice_index_or, if◌then◌else◌}
 use Rattle.word_bits.specs.Histories.{Plan}
 use Rattle.lock_core.specs.Plans.{appended, calls_in}
-use Rattle.task_script.specs.declared.script.Line.{Line}
 use Rattle.task_script.specs.Scripts.{Listing, call_words, is_on, plan_of}
 use Rattle.mm_serve.specs.Machines.{staffed}
+use Rattle.mm_serve.specs.Types.{Line}
 
 -- the object's plan, with the line's call behind those of the task if it is on the object
 abbrev pub with_line : (object task : ℕ) → Plan → Line → Plan

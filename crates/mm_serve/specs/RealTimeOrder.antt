@@ -1,12 +1,10 @@
 -- That a history keeps the order in which its calls took effect. Each took effect at one step on the object's table, the one that stores its record (`IsLinearizable`). Of a call by `perform` that
 -- step is one of the call (`Performs.stored`), so this order has the real-time order in it: a call that was over before another began comes first.
 use Rattle.std.specs.Prelude.{◌≡◌, ◌≢◌, ◌⊎◌, ℕ, false, List, ◌∷◌}
-use Rattle.word_bits.specs.declared.entry.Entry.{Entry}
 use Rattle.word_bits.specs.LockWords.{Unavailable}
 use Rattle.word_bits.specs.Objects.{Obj, IsObjectReply}
 use Rattle.word_bits.specs.Histories.{Plan, Records, Event, changes, history}
 use Rattle.word_bits.specs.Legal.{IsLegal}
-use Rattle.lock_core.specs.declared.view.Moment.{Moment}
 use Rattle.lock_core.specs.Kinds.{Kind}
 use Rattle.lock_core.specs.Linear.{IsLinearizable}
 use Rattle.lock_core.specs.Orders.{record_in, IsServed}
@@ -16,6 +14,7 @@ use Rattle.lock_core.specs.SiteStated.{IsNew}
 use Rattle.guarded.specs.ObjectCopying.{AreKnown}
 use Rattle.mm_report.specs.Orders.{IsEventOf, Before}
 use Rattle.mm_serve.specs.MachinePasts.{KnowsPast}
+use Rattle.mm_serve.specs.Types.{Entry, Moment}
 
 -- By this moment the call has taken effect under a hold: it is recorded, with another reply than busy, EINTR and sent.
 abbrev pub HasTakenEffect : Plan → Moment → Event → Type 0

@@ -1,11 +1,9 @@
 -- A pass of one lock, between the calls of its task.
 use Rattle.std.specs.Prelude.{◌≡◌, ℕ, ◌<◌, List, length, Some, None}
-use Rattle.word_bits.specs.declared.rec.Rec.{Rec}
+use Rattle.mm_serve.specs.Types.{Rec, Hand, No}
 use Rattle.word_bits.specs.LockWords.{Unavailable}
 use Rattle.word_bits.specs.Objects.{Obj}
 use Rattle.word_bits.specs.Histories.{Plan}
-use Rattle.lock_core.specs.declared.view.Hand.{Hand}
-use Rattle.lock_core.specs.declared.view.Held.TheVariants.{No}
 use Rattle.guarded.specs.Gathering.{HasDoneAll, HasDoneSoFar}
 
 -- it holds nothing, and each signal that it sent or consumed is recorded

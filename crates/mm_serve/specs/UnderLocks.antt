@@ -1,11 +1,8 @@
 -- Spaces under locks of one kind and tables under locks of another: what is known of an object and of its pass, by what the trait of locks tells of the two kinds.
 use Rattle.word_bits.specs.Histories.{Plan}
 use Rattle.std.specs.Prelude.{ℕ, List}
-use Rattle.lock_core.specs.declared.view.Hand.{Hand}
-use Rattle.lock_core.specs.declared.view.Moment.{Moment}
 use Rattle.vma_map.specs.Spaces.{space}
 use Rattle.fd_table.specs.Tables.{table}
-use Rattle.guarded.specs.declared.guarded.Guarded.{Guarded}
 use Rattle.sleep_lock.specs.LockMembers.{LockMembers}
 use Rattle.guarded.specs.GuardedHandles.{lock_of}
 use Rattle.mm_serve.specs.declared.space_or_table.SpaceOrTable.{SpaceOrTable}
@@ -14,6 +11,7 @@ use Rattle.mm_serve.specs.MachinePasts.{KnowsPast}
 use Rattle.mm_serve.specs.MachineQueues.{HasLookedBack}
 use Rattle.mm_serve.specs.TaskServing.{IsIdle}
 use Rattle.mm_serve.specs.MachineSites.{Matches, calls_of, hand_of, past_of, spun_of}
+use Rattle.mm_serve.specs.Types.{Hand, Moment, Guarded}
 
 -- a space or a table, each under its lock
 abbrev pub LockedObject : (A S R X P E C T F G Y Q H D : Type 0) → Type 0

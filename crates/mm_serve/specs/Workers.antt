@@ -1,16 +1,13 @@
 -- Workers: what each has before and after it did its task.
 use Rattle.std.specs.Prelude.{◌≡◌, ℕ, ◌==◌, ◌<◌, ◌≤◌, Bool, List, [], All, count_by, length, slice_get, slice_index_or, Some}
-use Rattle.word_bits.specs.declared.entry.Entry.{Entry}
-use Rattle.word_bits.specs.declared.rec.Rec.{Rec}
 use Rattle.word_bits.specs.Histories.{Plan}
-use Rattle.lock_core.specs.declared.view.Hand.{Hand}
-use Rattle.lock_core.specs.declared.view.Moment.{Moment}
 use Rattle.lock_core.specs.Pasts.{GoesOn}
 use Rattle.lock_core.specs.Records.{row}
 use Rattle.lock_core.specs.Views.{Knows}
 use Rattle.mm_serve.specs.declared.worker.Worker.{Worker}
 use Rattle.mm_serve.specs.MachineHistories.{HasDoneOn, AllHaveDone}
 use Rattle.mm_serve.specs.MachineQueues.{GoesBackToTask}
+use Rattle.mm_serve.specs.Types.{Entry, Rec, Hand, Moment}
 
 -- there is a pass of each object, and this is so of each object's number, the object and its pass
 abbrev pub EachOf : {S P : Type 0} → (ℕ → S → P → Type 0) → List S → List P → Type 0

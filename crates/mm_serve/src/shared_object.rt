@@ -1,13 +1,12 @@
 //! An object as a machine deals with it, whatever its kind and its lock.
 ghost use Rattle.std.specs.Prelude.{◌≡◌, ℕ, ◌+◌, ◌<◌, Bool, List, [], length, IfOk};
 ghost use Rattle.word_bits.specs.Histories.{Plan as Calls};
-ghost use Rattle.lock_core.specs.declared.view.Hand.{Hand};
-ghost use Rattle.lock_core.specs.declared.view.Moment.{Moment};
 ghost use Rattle.lock_core.specs.Pasts.{GoesOn};
 ghost use Rattle.lock_core.specs.Records.{row};
 ghost use Rattle.mm_serve.specs.MachineCopying.{WasHeldWith, blank};
 ghost use Rattle.mm_serve.specs.MachineHistories.{HasDoneOn, AllHaveDone, IsKnownHistoryOn, IsPlanOn};
 ghost use Rattle.mm_serve.specs.MachineQueues.{GoesBackToTask};
+ghost use Rattle.mm_serve.specs.Types.{Hand, Moment};
 ghost use Rattle.mm_serve.specs.Workers.{KnowsMore};
 
 use cpu_task::{Context, Crew, Gate};

@@ -5,21 +5,16 @@ use lib.ListN.{get_elem?}
 use Rattle.atomic_table.proofs.Lists.{at_map}
 use Rattle.word_bits.specs.Objects.{Obj}
 use Rattle.word_bits.specs.Histories.{Plan}
-use Rattle.lock_core.specs.declared.view.Moment.{Moment}
-use Rattle.lock_core.specs.declared.view.Marks.{Marks}
 use Rattle.lock_core.specs.Laws.Locked.{move-steps}
 use Rattle.lock_core.specs.Pasts.{ChangesOneWord, Instant, Moves, marks_of, Paced, Ran, instant, moment}
 use Rattle.lock_core.specs.Records.{bit}
 use Rattle.lock_core.specs.Spins.{holds_in}
 use Rattle.lock_core.specs.Views.{spin_of}
-use Rattle.wait_list.specs.declared.view.Waiter.{Waiter}
-use Rattle.wait_list.specs.declared.view.Change.{Change}
-use Rattle.wait_list.specs.declared.view.Change.TheVariants.{Stay, Enter, Leave}
 use Rattle.wait_list.specs.Lists.{Allowed, MadeBy as MadeUnderLock, Part, changed, list_part}
 use Rattle.wait_list.proofs.Determining.{kept-same}
-use Rattle.mutex_slow.specs.declared.view.MutexHand.{MutexHand}
 use Rattle.mutex_slow.specs.Mutexes.{AnswersHandoff, HasHandoff, HasLock, IsFirstTask, IsOwnChange, Kept, LeavesToFirst, MutexKept, MutexMoves, PicksFirst, TookUp, V, entered, list_of, may_miss, owner_at, owner_in, standing, standing_of, wake_words, Standing, WakesGo}
 use Rattle.mutex_slow.specs.MutexStated.{line_marks, HasBecome, HasWaitLock, IsMutexStep, MadeBy, TakesUp}
+use Rattle.mutex_slow.specs.Types.{Moment, Marks, Waiter, Change, Stay, Enter, Leave, MutexHand}
 use Rattle.mutex_slow.proofs.Stating.{listed, same-standing}
 
 has-lock : (id : ℕ) (ws : List ℕ) (vs : List V) (v : V) (p : Part) → get_elem? vs id ≡ some v → get_elem? (map (list_part list_of) vs) id ≡ some p → holds_in p.0 ≡ 1 → HasWaitLock id (moment standing (instant ws vs))

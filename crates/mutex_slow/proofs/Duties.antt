@@ -12,14 +12,13 @@ use Rattle.lock_core.proofs.RowLaws.{none-some, same-some}
 use Rattle.mutex_word.specs.declared.host.Turn.TheVariants.{Hand as HandOn}
 use Rattle.mutex_word.specs.Holders.{turns}
 use Rattle.mutex_word.specs.OwnerTries.{at_step}
-use Rattle.wait_list.specs.declared.view.Waiter.{Waiter}
 use Rattle.wait_list.specs.Lists.{AreTasks, first_code, first_of, sighted}
-use Rattle.wake_duty.specs.declared.view.Duty.TheVariants.{NoDuty, Owing}
 use Rattle.wake_duty.specs.DutyWakes.{owed, chose_any, duty_of, choosing, owing_at, drowsing, dozed_at, waked}
 use Rattle.wake_duty.specs.Laws.Wake.{duty-first, waits-drowsing}
 use Rattle.wake_duty.specs.WakeSteps.{HasTried}
 use Rattle.mutex_slow.specs.Mutexes.{V, OwesNoWake, is_code, saw_first, turned, wait_state_of, with_wake}
 use Rattle.mutex_slow.specs.MutexPlaces.{IsInLine, IsOutside, IsToWake, OwesWake, dozes_of, task_of}
+use Rattle.mutex_slow.specs.Types.{Waiter, NoDuty, Owing}
 
 -- who has no duty owes nothing
 pub clear-none : (v : V) → v.ext.wake.duty ≡ NoDuty → OwesNoWake v

@@ -1,9 +1,6 @@
 -- How a release ends a hold, from one step of it to the whole call.
 use Rattle.std.proofs.Common.{◌≡◌, ◌∙◌, ℕ, ◌+◌, ◌/◌, ◌%◌, ◌<◌, ◌≤◌, List, Option, Some, None, refl, sym, ap, subst, arith}
 use Rattle.word_bits.specs.OwnerWord.{task_code}
-use Rattle.lock_core.specs.declared.view.Moment.{Moment}
-use Rattle.lock_core.specs.declared.view.Held.{Held}
-use Rattle.lock_core.specs.declared.view.Held.TheVariants.{No, Alone}
 use Rattle.lock_core.specs.Pasts.{FoundAt, FoundSince, GoesOn, IsOwnStep}
 use Rattle.lock_core.specs.Shown.{Shown, PastGoesOn, shown}
 use Rattle.lock_core.specs.Laws.SiteRun.{step-by}
@@ -11,10 +8,10 @@ use Rattle.lock_core.specs.Spins.{holds_in}
 use Rattle.lock_core.specs.Views.{ticked}
 use Rattle.mutex_word.specs.Holders.{ReleasesOwner, own_word}
 use Rattle.mutex_word.specs.OwnerTries.{FindsUnasked, IsMine, LeavesFlags, ReleasedTo, FindsAsked as AsksThere}
-use Rattle.wait_list.specs.declared.view.Waiter.{Waiter}
 use Rattle.wait_list.specs.Lists.{waiter_code}
 use Rattle.mutex_slow.specs.Mutexes.{V, list_at, owner_at, turned}
-use Rattle.mutex_slow.specs.MutexPlaces.{task_of, DecidesAt, EndsUnasked, FindsAsked, FindsOwnCode, Names, NamesFirst, line_of}
+use Rattle.mutex_slow.specs.MutexPlaces.{task_of, wakes_after, DecidesAt, EndsUnasked, FindsAsked, FindsOwnCode, Names, NamesFirst, line_of}
+use Rattle.mutex_slow.specs.Types.{Moment, Held, No, Alone, Waiter}
 use Rattle.lock_core.proofs.Within.{found-within}
 
 -- the pass's last step found its own code, with these flags
@@ -81,6 +78,11 @@ named-within begun first v a b u same steps since before n freed more after = le
 waiter-task : (first : Option Waiter) → waiter_code first ≡ task_code (task_of first)
 waiter-task None = refl
 waiter-task (Some w) = refl
+
+-- a word without a flag names nobody
+pub names-nobody : (first : Option Waiter) (word wakes : ℕ) → Names first word → word ≡ 0 → wakes_after (task_of first) wakes ≡ wakes
+names-nobody None word wakes names none = refl
+names-nobody (Some w) word wakes names none = let code = names.0 in absurd (omega (arith, code, none))
 
 -- the look by which a call named the first waiter
 pub named-looks : (first : Option Waiter) (v u : Shown) → NamesFirst u.spin.took first v u → FoundSince v.hand.task u.spin.took u.steps list_at (task_code (task_of first)) v.past u.past

@@ -8,17 +8,14 @@ use native.Mathlib.Decide.{ℕ_discrete, dec_le}
 use Rattle.word_bits.specs.OwnerWord.{task_code}
 use Rattle.word_bits.specs.Objects.{Obj}
 use Rattle.word_bits.specs.Histories.{Plan}
-use Rattle.lock_core.specs.declared.view.Hand.{Hand}
-use Rattle.lock_core.specs.declared.view.Moment.{Moment}
-use Rattle.lock_core.specs.declared.view.Held.TheVariants.{No, Alone}
 use Rattle.lock_core.specs.Kinds.{mutex}
 use Rattle.lock_core.specs.Locked.{FlagStates, IsLockedThen, IsWaitLockFree, OwnerStates}
 use Rattle.lock_core.specs.Pasts.{EachMoment}
 use Rattle.mutex_word.specs.Holders.{IsHolder}
-use Rattle.wait_list.specs.declared.view.Waiter.{Waiter}
 use Rattle.wait_list.specs.Lists.{counted}
 use Rattle.mutex_slow.specs.Mutexes.{owner_at, owner_in}
 use Rattle.mutex_slow.specs.MutexStated.{IsListed, IsMutexThen, StatesOwner, task_of, waits_on}
+use Rattle.mutex_slow.specs.Types.{Hand, Moment, No, Alone, Waiter}
 
 pub each-moment : (P Q : Moment → Type 0) → ((m : Moment) → P m → Q m) → (past : List Moment) → EachMoment P past → EachMoment Q past
 each-moment P Q so [] e = tt

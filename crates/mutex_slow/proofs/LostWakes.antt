@@ -1,11 +1,10 @@
 -- No wake-up of a mutex is lost.
 use Rattle.std.proofs.Common.{◌≡◌, ◌≢◌, ℕ, ◌+◌, ◌<◌, List, [], ◌∷◌, inl, inr, Option, Some, None, arith}
-use Rattle.lock_core.specs.declared.view.Moment.{Moment}
-use Rattle.wait_list.specs.declared.view.Waiter.{Waiter}
 use Rattle.wait_list.specs.Lists.{counted, first_code}
 use Rattle.wait_list.proofs.Waiters.{counted-here}
 use Rattle.mutex_slow.specs.MutexStated.{IsListed, waits_in}
 use Rattle.mutex_slow.specs.LostWakes.{LosesNoWake}
+use Rattle.mutex_slow.specs.Types.{Moment, Waiter}
 
 first-counted : (l : List Waiter) (t : ℕ) → first_code l ≡ t + 1 → 0 < counted t l
 first-counted [] t is = absurd (omega (arith, is))

@@ -5,22 +5,15 @@ use Rattle.word_bits.specs.Objects.{Obj}
 use Rattle.word_bits.specs.Histories.{Plan}
 use Rattle.cpu_task.proofs.SleepCounts.{rises-on}
 use Rattle.cpu_task.specs.CpuCounting.{Rises, SleepsInTurns}
-use Rattle.lock_core.specs.declared.how.How.{How}
-use Rattle.lock_core.specs.declared.how.How.TheVariants.{Fast, Spun, Slept}
-use Rattle.lock_core.specs.declared.pass.Pass.{Pass}
-use Rattle.lock_core.specs.declared.site.Site.{Site}
-use Rattle.lock_core.specs.declared.view.Held.TheVariants.{Alone}
-use Rattle.lock_core.specs.declared.view.Moment.{Moment}
 use Rattle.lock_core.specs.SiteHandles.{SitsAt, MovesOn}
 use Rattle.lock_core.specs.Pasts.{GoesOn, IsOwnStep}
 use Rattle.lock_core.specs.Laws.SiteRun.{step-by}
 use Rattle.lock_core.specs.Shown.{Shown, PastGoesOn, shown}
 use Rattle.lock_core.proofs.Within.{found-within}
-use Rattle.mutex_word.specs.declared.tries.Tried.TheVariants.{Took}
 use Rattle.mutex_word.specs.OwnerTries.{CameTo, FindsOpen, IsOpen}
-use Rattle.mutex_slow.specs.declared.view.MutexHand.{MutexHand}
 use Rattle.mutex_slow.specs.Mutexes.{V, owner_at, turned}
 use Rattle.mutex_slow.specs.MutexPlaces.{CountsBy, GotInLine, TakesOpen, line_of, seen_of}
+use Rattle.mutex_slow.specs.Types.{How, Fast, Spun, Slept, Pass, Site, Alone, Moment, Took, MutexHand}
 
 -- the pass's last step found the word, and left the pass holding
 pub takes-open : (v u : V) (p q : List Moment) (task : Option ℕ) → task ≡ v.hand.task → u.hand.task ≡ v.hand.task → u.hand.held ≡ Alone → v.steps < u.steps → IsOwnStep u q → GoesOn p q → FindsOpen owner_at task q → TakesOpen (shown line_of v.fronts v p) (shown line_of u.fronts u q)

@@ -1,16 +1,12 @@
 -- What appending itself makes of where a pass stands.
 use Rattle.std.proofs.Common.{◌≡◌, ◌≢◌, ◌∙◌, Bool, List, [], ◌∷◌, ◌++◌, length, None, Some, sym, refl, ap, subst, eq-eqb, ne_eqb, if◌then◌else◌}
 use Rattle.lock_core.specs.Views.{SpinHolds}
-use Rattle.wait_list.specs.declared.view.Waiter.{Waiter}
-use Rattle.wait_list.specs.declared.view.Change.TheVariants.{Enter}
-use Rattle.wait_list.specs.declared.view.ListHand.{ListHand}
 use Rattle.wait_list.specs.Lists.{Appends, FindsFirst, Knows, list_part, first_of}
 use Rattle.wait_list.proofs.Joining.{alone-first, holds-one, others-first}
-use Rattle.mutex_slow.specs.declared.view.Point.TheVariants.{Rest, Joins}
 use Rattle.wake_duty.specs.DutyWakes.{waits}
 use Rattle.mutex_slow.specs.Mutexes.{V, OwesNoWake, list_of, with_list, turned}
 use Rattle.mutex_slow.specs.MutexPlaces.{IsInLine}
-use Rattle.mutex_word.specs.declared.host.Turn.TheVariants.{Flag}
+use Rattle.mutex_slow.specs.Types.{Waiter, Enter, ListHand, Rest, Joins, Flag}
 use Rattle.mutex_word.specs.Holders.{turns}
 
 module _ (v u x : V) (w : Waiter) (first : Waiter) (locked : SpinHolds v.spin) (a : Appends list_of with_list v w u) (f : FindsFirst list_of with_list u (Some first) x) where

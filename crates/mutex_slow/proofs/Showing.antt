@@ -1,19 +1,17 @@
 -- What a failed try shows to callers of any lock.
 use Rattle.std.proofs.Common.{◌≡◌, ℕ, ◌+◌, ◌*◌, ◌<◌, ◌≤◌, Bool, List, refl, ap, ◌∙◌, subst, arith}
 use Rattle.word_bits.specs.declared.TheConstants.{MAX_TASKS}
-use Rattle.lock_core.specs.declared.view.Moment.{Moment}
-use Rattle.lock_core.specs.declared.view.Held.TheVariants.{No}
 use Rattle.lock_core.specs.Holding.{missed}
 use Rattle.lock_core.specs.Pasts.{GoesOn, FoundAt, FoundAtStep, IsOwnStep}
 use Rattle.lock_core.specs.Laws.SiteRun.{found-at-step}
 use Rattle.lock_core.specs.Kinds.{mutex}
 use Rattle.lock_core.specs.Shown.{shown}
 use Rattle.lock_core.specs.Locking.{Misses}
-use Rattle.mutex_word.specs.declared.host.Turn.TheVariants.{Fail}
 use Rattle.mutex_word.specs.Holders.{turns}
 use Rattle.mutex_word.specs.OwnerTries.{at_step}
 use Rattle.mutex_slow.specs.Mutexes.{V, owner_at, turned}
 use Rattle.mutex_slow.specs.MutexPlaces.{line_of}
+use Rattle.mutex_slow.specs.Types.{Moment, No, Fail}
 
 same-le : (m n : ℕ) → m ≡ n → n ≤ m
 same-le m n e = omega arith

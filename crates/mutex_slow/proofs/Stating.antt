@@ -7,8 +7,6 @@ use Rattle.word_bits.specs.OwnerWord.{task_code}
 use Rattle.word_bits.specs.LockWords.{owned}
 use Rattle.word_bits.specs.Objects.{Obj}
 use Rattle.word_bits.specs.Histories.{Plan}
-use Rattle.lock_core.specs.declared.view.Hand.{Hand}
-use Rattle.lock_core.specs.declared.view.Held.TheVariants.{No}
 use Rattle.lock_core.specs.Layout.{site}
 use Rattle.lock_core.specs.Locked.{HasPass, IsWaitLockFree}
 use Rattle.lock_core.specs.SpinFrames.{when}
@@ -17,26 +15,21 @@ use Rattle.lock_core.specs.Totals.{total, total-at, total-two}
 use Rattle.lock_core.specs.ViewParts.{Each, at_unmap}
 use Rattle.lock_core.specs.Records.{bit}
 use Rattle.lock_core.specs.Views.{hand_of, spin_of, held_weight, held_of, is_number}
-use Rattle.lock_core.specs.declared.view.Marks.{Marks}
 use Rattle.lock_core.specs.Pasts.{instant, marks_of, moment}
 use Rattle.lock_core.proofs.HandLaws.{false-or-true, held-none, number-or-not, not-both}
 use Rattle.lock_core.proofs.Stating.{kept-states}
 use Rattle.lock_core.proofs.WordSteps.{some-of}
 use Rattle.mutex_word.specs.Holders.{OwnKept, IsHolder}
 use Rattle.mutex_word.specs.Laws.Own.{Named, no-codes, only-code, alone-code}
-use Rattle.wait_list.specs.declared.view.Waiter.{Waiter}
 use Rattle.wait_list.specs.Lists.{Part, PartOk, changes_of, counted, first_code, list_part}
 use Rattle.mutex_slow.specs.Mutexes.{V, Flagged, Kept, MutexKept, list_of, owner_in, point_of, queued_of, standing, standing_of, chosen_code, awake_bit, wake_words, Standing}
 use Rattle.mutex_slow.specs.Laws.Coupled.{is-in, not-in, point-held}
 use Rattle.mutex_slow.specs.Laws.Mutex.{apart}
-use Rattle.wake_duty.specs.declared.view.Duty.{Duty}
-use Rattle.wake_duty.specs.declared.view.Duty.TheVariants.{NoDuty, Owing, Chosen}
-use Rattle.wake_duty.specs.declared.view.WaitState.{WaitState}
-use Rattle.wake_duty.specs.declared.view.WaitState.TheVariants.{Absent, Awake, Tried}
 use Rattle.wake_duty.specs.DutyWakes.{WakePart, owed, chose, awake, waits, keeps_awake, wake_word}
 use Rattle.mutex_slow.specs.Laws.Duty.{wparted, first-small, some-of as any-of}
 use Rattle.mutex_slow.specs.Laws.Standing.{owed-some, owes-none}
 use Rattle.mutex_slow.specs.MutexStated.{line_marks, waits_in, HasDuty, IsListed, IsMutexThen, OwesNone}
+use Rattle.mutex_slow.specs.Types.{Hand, No, Marks, Waiter, Duty, NoDuty, Owing, Chosen, WaitState, Absent, Awake, Tried}
 
 -- who holds, by a word that picks nobody
 holder-of : (hs : List Hand) (word : ℕ) → OwnKept word hs → Named hs → word % 8 < 4 → (task : Option ℕ) × (word / 8 ≡ task_code task) × IsHolder hs task

@@ -3,3 +3,4 @@ pub mod Duty
 pub mod Standing
 pub mod Mutex
 pub mod MutexSite
+pub mod MutexLock

@@ -2,14 +2,12 @@
 use Rattle.std.specs.Prelude.{◌≡◌, ◌≢◌, ℕ, ◌+◌, ◌%◌, ◌⊎◌, List, Some, None}
 use mathlib.Core.Option.{some}
 use lib.ListN.{get_elem?}
-use Rattle.lock_core.specs.declared.view.Hand.{Hand}
-use Rattle.lock_core.specs.declared.view.Moment.{Moment}
 use Rattle.mutex_word.specs.Holders.{IsHolder}
-use Rattle.wait_list.specs.declared.view.Waiter.{Waiter}
 use Rattle.wait_list.specs.Lists.{first_code}
 use Rattle.wake_duty.specs.DutyWakes.{wake_word}
 use Rattle.mutex_slow.specs.Mutexes.{Standing, wake_words}
 use Rattle.mutex_slow.specs.MutexStated.{IsListed, StandsMarked}
+use Rattle.mutex_slow.specs.Types.{Hand, Moment, Waiter}
 
 -- A task that doesn't wait is to wake this waiter. It ended a hold, left WAITERS, and hasn't looked for a waiter since; or it has chosen this one, and hasn't set its wake word.
 abbrev pub HasWaker : Moment → ℕ → Type 0

@@ -3,9 +3,6 @@ use Rattle.std.specs.Prelude.{◌≡◌, ℕ, ◌+◌, ◌≤◌, Bool, List, No
 use Rattle.word_bits.specs.LockWords.{owned}
 use Rattle.word_bits.specs.Objects.{Obj}
 use Rattle.word_bits.specs.Histories.{Plan}
-use Rattle.lock_core.specs.declared.view.Hand.{Hand}
-use Rattle.lock_core.specs.declared.view.Held.TheVariants.{Alone}
-use Rattle.lock_core.specs.declared.view.Moment.{Moment}
 use Rattle.lock_core.specs.SiteHandles as inner
 use Rattle.lock_core.specs.Kinds.{mutex as kind}
 use Rattle.lock_core.specs.Locking.{Misses, Takes}
@@ -13,12 +10,12 @@ use Rattle.lock_core.specs.Pasts.{opening}
 use Rattle.lock_core.specs.Shown as callers
 use Rattle.lock_core.specs.Shown.{Shown, shown}
 use Rattle.lock_core.specs.Views.{SpinRests}
-use Rattle.osq_nodes.specs.declared.node.Place.TheVariants.{Out}
 use Rattle.osq_nodes.specs.OsqHandles as queue
 use Rattle.mutex_slow.specs.declared.calls.Mutex.{Mutex}
 use Rattle.mutex_slow.specs.declared.calls.MutexPass.{MutexPass}
 use Rattle.mutex_slow.specs.Mutexes.{OwesNoWake, idle, owner_at, standing}
 use Rattle.mutex_slow.specs.MutexPlaces.{IsOutside, line_of}
+use Rattle.mutex_slow.specs.Types.{Hand, Alone, Moment, Out}
 
 -- a new table of this plan
 abbrev pub newest : Plan → Moment

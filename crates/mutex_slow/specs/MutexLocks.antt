@@ -8,7 +8,7 @@ use Rattle.lock_core.specs.SpinStated.{IsSpinLockThen, IsSpinMove}
 use Rattle.mutex_slow.specs.MutexHandles.{newest}
 use Rattle.mutex_slow.specs.Mutexes.{standing, wait_lock_at}
 use Rattle.mutex_slow.specs.MutexStated.{HasBecome, IsMutexThen, IsOutOfList}
-use Rattle.wait_list.specs.declared.view.Waiter.{Waiter}
+use Rattle.mutex_slow.specs.Types.{Waiter}
 
 -- What a pass knows that has looked back. At each moment so far the owner word stated who held, who was picked and whether tasks waited. The pass knows which tasks wait now, first to last. This list
 -- and the word have come to be by the steps of a mutex alone. Its own task doesn't wait. At each moment the spin words stated who had the wait lock, and each step was one of a spin lock's.

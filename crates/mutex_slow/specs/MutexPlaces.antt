@@ -1,30 +1,19 @@
 -- Where a pass stands in a call on a mutex, and what callers of any lock see of it.
-use Rattle.std.specs.Prelude.{◌≡◌, ℕ, ◌+◌, ◌<◌, ◌≤◌, ◌/◌, ◌%◌, ◌⊎◌, true, false, Option, Some, None}
+use Rattle.std.specs.Prelude.{◌≡◌, ◌≢◌, ℕ, ◌+◌, ◌<◌, ◌≤◌, ◌/◌, ◌%◌, ◌⊎◌, true, false, Option, Some, None}
 use Rattle.word_bits.specs.OwnerWord.{task_code}
 use Rattle.cpu_task.specs.CpuCounting.{one_more, Rises, SleepsInTurns}
-use Rattle.lock_core.specs.declared.view.Line.{Line}
-use Rattle.lock_core.specs.declared.pass.Pass.{Pass}
-use Rattle.lock_core.specs.declared.site.Site.{Site}
 use Rattle.lock_core.specs.SiteHandles.{plan_of, view_of, hand_in, past_of}
 use Rattle.word_bits.specs.Objects.{Obj}
-use Rattle.lock_core.specs.declared.view.Held.{Held}
-use Rattle.lock_core.specs.declared.view.Held.TheVariants.{No, Alone}
-use Rattle.lock_core.specs.declared.how.How.{How}
-use Rattle.lock_core.specs.declared.how.How.TheVariants.{Fast, Spun, Slept}
 use Rattle.lock_core.specs.Pasts.{FoundSince}
 use Rattle.lock_core.specs.Shown.{Shown, FindsAtStep, shown}
 use Rattle.lock_core.specs.Locking.{Takes}
-use Rattle.wait_list.specs.declared.view.Waiter.{Waiter}
-use Rattle.mutex_slow.specs.declared.view.MutexHand.{MutexHand}
-use Rattle.mutex_slow.specs.declared.view.Point.TheVariants.{Rest}
 use Rattle.wait_list.specs.Lists.{waiter_code}
 use Rattle.lock_core.specs.Holding.{released}
 use Rattle.mutex_word.specs.OwnerTries.{FindsUnasked, IsOpen}
-use Rattle.wake_duty.specs.declared.view.Duty.TheVariants.{Owing}
-use Rattle.wake_duty.specs.declared.view.WaitState.TheVariants.{Tried}
 use Rattle.wake_duty.specs.DutyWakes.{waits}
 use Rattle.mutex_slow.specs.Mutexes.{V, HasChosen, OwesNoWake, list_at, owner_at}
 use Rattle.mutex_slow.specs.MutexStated.{HasWaitLock}
+use Rattle.mutex_slow.specs.Types.{Line, Pass, Site, Held, No, Alone, How, Fast, Spun, Slept, Waiter, MutexHand, Rest, Owing, Tried}
 
 -- how a pass has stood in line
 abbrev pub line_of : MutexHand → Line
@@ -159,11 +148,11 @@ NamesFirst begun first v u = ((step n looked : ℕ) × (own : FindsOwnCode step 
 abbrev pub EndsAsked : Shown → Shown → Type 0
 EndsAsked v u = (v.spin.entries < u.spin.entries) × ((step : ℕ) × FindsAsked step v u × (step < u.spin.took)) × ((first : Option Waiter) × NamesFirst u.spin.took first v u)
 
--- a call that ended its hold: Where no flag was left, it set no wake word. Else it set one wake word where there is a task of this code, and none where there isn't: a step, made since it took the
--- wait lock, found the list's head, which has the code of this task or 0.
+-- a call that ended its hold: Where it left no flag, it set no wake word. Where it left one, it had taken the wait lock since it began. A step since then found the list's head, which has the code of
+-- this task or 0. The call set one wake word where there is such a task, and none where there isn't.
 abbrev pub WakesFirst : (before after : ℕ) → Shown → Shown → Type 0
-WakesFirst before after v u = ((u.hand.freed ≡ 0) × (after ≡ before)) ⊎
-    ((first : Option ℕ) × FoundSince v.hand.task u.spin.took u.steps list_at (task_code first) v.past u.past × (after ≡ wakes_after first before))
+WakesFirst before after v u = (u.hand.freed ≡ 0 → after ≡ before)
+    × (u.hand.freed ≢ 0 → (v.steps < u.spin.took) × ((first : Option ℕ) × FoundSince v.hand.task u.spin.took u.steps list_at (task_code first) v.past u.past × (after ≡ wakes_after first before)))
 
 -- how a call that releases ends its hold
 abbrev pub EndsHold : Shown → Shown → Type 0

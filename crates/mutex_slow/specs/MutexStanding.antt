@@ -1,9 +1,9 @@
 -- How a pass stands between two calls of its task.
 use Rattle.std.specs.Prelude.{◌≡◌, false, IsSome}
-use Rattle.lock_core.specs.declared.view.Held.TheVariants.{No, Alone}
 use Rattle.mutex_slow.specs.declared.calls.Mutex.{Mutex}
 use Rattle.mutex_slow.specs.declared.calls.MutexPass.{MutexPass}
 use Rattle.mutex_slow.specs.MutexHandles.{hand_in, SitsAt}
+use Rattle.mutex_slow.specs.Types.{No, Alone}
 
 module _ {O C : Type 0} where
   -- it has a task's number, and holds nothing

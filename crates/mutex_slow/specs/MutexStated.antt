@@ -6,23 +6,16 @@ use Rattle.word_bits.specs.LockWords.{owned}
 use Rattle.word_bits.specs.Objects.{Obj}
 use Rattle.word_bits.specs.OwnerWord.{task_code}
 use Rattle.word_bits.specs.Histories.{Plan}
-use Rattle.lock_core.specs.declared.view.Hand.{Hand}
-use Rattle.lock_core.specs.declared.view.SpinHand.{SpinHand}
-use Rattle.lock_core.specs.declared.view.Marks.{Marks}
-use Rattle.lock_core.specs.declared.view.Moment.{Moment}
-use Rattle.lock_core.specs.declared.view.Held.TheVariants.{No, Alone}
 use Rattle.lock_core.specs.Locked.{HasPass, IsSiteStep, IsWaitLockFree}
 use Rattle.lock_core.specs.Shown.{IsLatestStep, Shown}
 use Rattle.lock_core.specs.Spins.{holds_in}
 use Rattle.lock_core.specs.SiteStated.{IsSiteThen}
 use Rattle.mutex_word.specs.Holders.{IsHolder, KeepsLeft}
-use Rattle.wait_list.specs.declared.view.Waiter.{Waiter}
-use Rattle.wait_list.specs.declared.view.Change.{Change}
-use Rattle.wait_list.specs.declared.view.Change.TheVariants.{Stay, Enter, Leave}
 use Rattle.wait_list.specs.Lists.{Allowed, IsList, Lists, changed, counted, first_code}
 use Rattle.wake_duty.specs.DutyWakes.{wake_word}
 use Rattle.mutex_slow.specs.Mutexes.{AnswersHandoff, Asks, HasHandoff, entered, IsFirstTask, IsUnpicked, Leaves, LeavesToFirst, Standing, WakesGo, numbers_of, PicksFirst, list_words, owner_at}
 use Rattle.mutex_slow.specs.Mutexes.{owner_in, wake_words}
+use Rattle.mutex_slow.specs.Types.{Hand, SpinHand, Marks, Moment, No, Alone, Waiter, Change, Stay, Enter, Leave}
 
 -- Without the pickup flag the word names the task that holds, or nobody where nobody does. With it nobody holds, and the word names the first waiter. The flags of the handoff and of the pickup are
 -- never both set. While the wait lock is free, the flag of the waiters is set exactly where tasks wait, and the other two only there.

@@ -6,9 +6,8 @@ use Rattle.word_bits.specs.declared.TheConstants.{MAX_TASKS}
 use Rattle.word_bits.specs.LockWords.{owned}
 use Rattle.word_bits.specs.Objects.{Obj}
 use Rattle.word_bits.specs.Histories.{Plan}
-use Rattle.lock_core.specs.declared.view.View.{View}
-use Rattle.lock_core.specs.declared.view.Hand.{Hand}
-use Rattle.lock_core.specs.declared.view.Held.TheVariants.{No, Alone}
+use Rattle.mutex_slow.specs.Types.{View, Hand, No, Alone, Turn, Fail, Take, Ask, Free, Flag, Clear, Waiter, Change, Stay, Enter, Leave, ListHand, Duty, NoDuty, Owing, Chosen, WaitState}
+use Rattle.mutex_slow.specs.Types.{Absent, Awake, Tried, WakeHand, MutexHand, Point, Rest, Joins, Empties}
 use Rattle.lock_core.specs.declared.layout.TheConstants.{LOCK_WORDS, SPIN_ROOM, SPIN_WORDS}
 use Rattle.lock_core.specs.Layout.{site, width, part}
 use Rattle.lock_core.specs.Views.{SpinRests, hand_of, spin_part, is_number}
@@ -19,26 +18,13 @@ use Rattle.lock_core.specs.Spins.{SpinKept, SpinMoves, holds_in}
 use Rattle.lock_core.specs.Records.{bit}
 use Rattle.lock_core.specs.Totals.{total}
 use Rattle.lock_core.specs.ViewParts.{Each}
-use Rattle.mutex_word.specs.declared.host.Turn.{Turn}
-use Rattle.mutex_word.specs.declared.host.Turn.TheVariants.{Fail, Take, Ask, Free, Hand as HandOn, Flag, Clear}
+use Rattle.mutex_word.specs.declared.host.Turn.TheVariants.{Hand as HandOn}
 use Rattle.mutex_word.specs.Holders.{KeepsLeft, OwnKept, IsAsk}
 use Rattle.mutex_word.specs.OwnerTries.{IsTake}
-use Rattle.wait_list.specs.declared.view.Waiter.{Waiter}
-use Rattle.wait_list.specs.declared.view.Change.{Change}
-use Rattle.wait_list.specs.declared.view.Change.TheVariants.{Stay, Enter, Leave}
-use Rattle.wait_list.specs.declared.view.ListHand.{ListHand}
 use Rattle.wait_list.specs.declared.words.TheConstants.{LIST_WORDS}
 use Rattle.wait_list.specs.Lists.{ListKept, ListMoves, Knows, list_part, no_list, first_code, counted}
-use Rattle.wake_duty.specs.declared.view.Duty.{Duty}
-use Rattle.wake_duty.specs.declared.view.Duty.TheVariants.{NoDuty, Owing, Chosen}
-use Rattle.wake_duty.specs.declared.view.WaitState.{WaitState}
-use Rattle.wake_duty.specs.declared.view.WaitState.TheVariants.{Absent, Awake, Tried}
-use Rattle.wake_duty.specs.declared.view.WakeHand.{WakeHand}
 use Rattle.wake_duty.specs.DutyWakes.{WAKE_WORDS, WakeKept, wake_part, no_wake, waits, owed, chose_any, duty_of, failing, looking, setting, drowsing}
 use Rattle.wake_duty.specs.WakeMoves.{ChoosesFirst, DozesOff, SetsChosen, WordGoes}
-use Rattle.mutex_slow.specs.declared.view.MutexHand.{MutexHand}
-use Rattle.mutex_slow.specs.declared.view.Point.{Point}
-use Rattle.mutex_slow.specs.declared.view.Point.TheVariants.{Rest, Joins, Empties}
 
 abbrev pub V : Type 0
 V = View MutexHand

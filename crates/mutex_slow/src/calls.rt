@@ -1,7 +1,5 @@
 //! Mutexes, their passes, and their calls.
 ghost use Rattle.std.specs.Prelude.{◌≡◌, ◌≢◌, ◌<◌, ◌≤◌, ◌+◌, Bool, true, false, List, [], ◌∷◌, length, Some, None, IsSome, Ok, IfOk, IfErr};
-ghost use Rattle.lock_core.specs.declared.how.How.TheVariants.{Fast};
-ghost use Rattle.lock_core.specs.declared.view.Held.TheVariants.{No, Alone};
 ghost use Rattle.lock_core.specs.Kinds.{mutex, unavailable, wakes_alone};
 ghost use Rattle.lock_core.specs.Holding.{missed};
 ghost use Rattle.lock_core.specs.Pasts.{EachMoment, FoundAt, GoesOn, Paced, Ran, Tail};
@@ -13,12 +11,14 @@ ghost use Rattle.lock_core.specs.SpinStated.{IsSpinLockThen, IsSpinMove};
 ghost use Rattle.lock_core.specs.SiteStated.{IsNew};
 ghost use Rattle.lock_core.specs.Views.{gathered, gave_up};
 ghost use Rattle.osq_nodes.specs.OsqHandles.{tasks_of};
+ghost use Rattle.osq_nodes.specs.OsqRuled.{newest as newest_queue};
 ghost use Rattle.lock_core.specs.SiteHandles as inner;
 ghost use Rattle.mutex_slow.specs.Mutexes.{owner_at, standing, wait_lock_at};
 ghost use Rattle.cpu_task.specs.CpuCounting.{Dozes, Rises};
 ghost use Rattle.sleep_lock.specs.Leaving.{LeavesForCpu};
 ghost use Rattle.mutex_slow.specs.MutexPlaces.{CountsBy, CountsInLine, EndsHold, TakesOpen, WakesFirst};
 ghost use Rattle.mutex_slow.specs.MutexStated.{HasBecome, IsMutexThen, IsOutOfList, MarksCounts, waits_on};
+ghost use Rattle.mutex_slow.specs.Types.{Fast, No, Alone};
 ghost use Rattle.lock_core.specs.Locked.{IsLockedThen, IsSiteStep};
 ghost use Rattle.lock_core.specs.Linear.{IsLinearizable};
 ghost use Rattle.wait_list.specs.declared.view.Waiter.{Waiter as Waiters};
@@ -84,7 +84,7 @@ impl<O: Object> MutexPass<O> {
 }
 
 impl<O: Object> Mutex<O> {
-    ghost use Rattle.mutex_slow.specs.MutexHandles.{newest, plan_of, shown_of, hand_in, SitsAt, SpunGoesOn, TakesAlone, KeepsFronts, KeepsMisses, KeepsWakes, EntersOnce, MissesAt, MissesIfShut, dozes_in, wakes_in, StepsOn};
+    ghost use Rattle.mutex_slow.specs.MutexHandles.{newest, plan_of, shown_of, spun_of, hand_in, SitsAt, SpunGoesOn, TakesAlone, KeepsFronts, KeepsMisses, KeepsWakes, EntersOnce, MissesAt, MissesIfShut, dozes_in, wakes_in, StepsOn};
 
     /// A new mutex: nobody holds, the state is empty, no call is logged or recorded. The pass has
     /// no task number.
@@ -95,6 +95,7 @@ impl<O: Object> Mutex<O> {
         ensures new { IfOk result (λ _. IsNew O.object O.WORDS plan (newest plan)) }
         ensures view { IfOk result (λ t.
             shown_of t.1 ≡ shown_new (Some plan) [] (newest plan ∷ [])) }
+        ensures unspun { IfOk result (λ t. spun_of t.1 ≡ newest_queue (length plan) ∷ []) }
         ensures fresh { IfOk result (λ t. (wakes_in t.1 ≡ 0) × (dozes_in t.1 ≡ 0)) }
     {
         let (site, pass) = Site::open(alloc, plan)?;
@@ -118,6 +119,7 @@ impl<O: Object> Mutex<O> {
         ensures its_own { SitsAt self.now result }
         ensures kept { Looks (shown_of pass.old) (shown_of pass.new) }
         ensures given { shown_of result ≡ shown_split (shown_of pass.old) }
+        ensures its_queue { spun_of result ≡ spun_of pass.old }
         ensures still { KeepsWakes pass.old pass.new }
         ensures fresh { (wakes_in result ≡ 0) × (dozes_in result ≡ 0) }
     {

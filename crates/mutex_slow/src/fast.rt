@@ -1,11 +1,11 @@
 //! The try of a pass that isn't in the list, with which each call that takes begins.
 ghost use Rattle.std.specs.Prelude.{◌≡◌, ◌+◌, Bool, IsSome, IfOk, IfErr};
-ghost use Rattle.lock_core.specs.declared.view.Held.TheVariants.{No};
 ghost use Rattle.lock_core.specs.Kinds.{mutex};
 ghost use Rattle.lock_core.specs.Locking.{Misses, OnlyTried};
 ghost use Rattle.lock_core.specs.SiteHandles.{view_of, hand_in, task_in, held_in, SitsAt, MovesOn};
 ghost use Rattle.mutex_slow.specs.Mutexes.{OwesNoWake, owner_at};
 ghost use Rattle.mutex_slow.specs.MutexPlaces.{seen_of, TakesAlone, TakesOpen, KeepsMisses, StandsSame, IsOutside, KeepsWakes};
+ghost use Rattle.mutex_slow.specs.Types.{No};
 
 use crate::rule::MutexRule;
 use lock_core::{Pass, Site};

@@ -1,12 +1,12 @@
 //! How a waiter leaves the list: it holds, or a signal interrupts it.
 ghost use Rattle.std.specs.Prelude.{◌≡◌, ◌⊎◌, true, IsSome, IfSome, IfNone};
-ghost use Rattle.lock_core.specs.declared.view.Held.TheVariants.{Alone};
 ghost use Rattle.lock_core.specs.Views.{SpinHolds};
 ghost use Rattle.lock_core.specs.Locking.{SawPending};
 ghost use Rattle.lock_core.specs.Signals.{OnlyConsumed, OnlyHeard};
 ghost use Rattle.lock_core.specs.SiteHandles.{view_of, task_in, held_in, SitsAt, MovesOn};
 ghost use Rattle.mutex_slow.specs.Mutexes.{OwesNoWake};
 ghost use Rattle.mutex_slow.specs.MutexPlaces.{seen_of, KeepsHand, StandsSame, IsOutside, IsInLine, HasFailed, KeepsWakes};
+ghost use Rattle.mutex_slow.specs.Types.{Alone};
 
 use crate::rule::MutexRule;
 use lock_core::{Interrupted, Pass, Site};

@@ -9,21 +9,24 @@ use std::sync::Wait;
 use word_bits::Object;
 
 impl<O: Object> SleepLock<O> for Mutex<O> {
-    ghost use Rattle.std.specs.Prelude.{◌≡◌, refl};
+    ghost use Rattle.std.specs.Prelude.{◌≡◌, [], ◌∷◌, length, refl};
     ghost use Rattle.lock_core.specs.Kinds.{mutex as mutex_kind};
     ghost use Rattle.mutex_slow.specs.MutexHandles.{dozes_in, newest, spun_of};
     ghost use Rattle.mutex_slow.specs.Mutexes.{owner_at};
     ghost use Rattle.mutex_slow.specs.MutexPlaces.{EndsHold};
     ghost use Rattle.mutex_slow.specs.MutexStated.{MarksDozes, waits_on};
     ghost use Rattle.mutex_slow.specs.MutexLocks.{KnowsMutex};
+    ghost use Rattle.osq_nodes.specs.OsqRuled.{newest as newest_queue};
     ghost use Rattle.osq_unqueue.specs.LockSpinQueues.{KnowsSpinQueue};
-    ghost use Rattle.mutex_slow.specs.MutexLockLaws.{mutex-stands};
+    ghost use Rattle.mutex_slow.specs.Laws.MutexLock.{mutex-stands};
 
     ghost kind = { mutex_kind };
 
     ghost word_at = { owner_at };
 
     ghost opened = { newest };
+
+    ghost opened_queue = { λ k. newest_queue (length k) ∷ [] };
 
     ghost waits = { waits_on };
 

@@ -1,13 +1,12 @@
 //! The slow path behind the spinning: a task appends itself to the list, and waits in it.
 ghost use Rattle.std.specs.Prelude.{◌≡◌, ◌+◌, Bool, true, IsSome, IfOk, IfErr, ◌≤◌};
-ghost use Rattle.lock_core.specs.declared.view.Held.TheVariants.{No};
 ghost use Rattle.lock_core.specs.Views.{SpinHolds, SpinRests};
 ghost use Rattle.lock_core.specs.Kinds.{mutex};
 ghost use Rattle.lock_core.specs.Locking.{Interrupts};
 ghost use Rattle.lock_core.specs.SiteHandles.{view_of, task_in, held_in, SitsAt, MovesOn};
 ghost use Rattle.mutex_slow.specs.Mutexes.{OwesNoWake, owner_at};
 ghost use Rattle.mutex_slow.specs.MutexPlaces.{seen_of, TakesAlone, TakesOpen, KeepsHand, KeepsFronts, IsOutside, IsInLine, KeepsWakes, SetsNoWord, dozes_of, GotInLine, WentInLine};
-ghost use Rattle.lock_core.specs.declared.how.How.TheVariants.{Spun};
+ghost use Rattle.mutex_slow.specs.Types.{No, Spun};
 ghost use Rattle.cpu_task.specs.CpuCounting.{Dozes, SleepsInTurns};
 
 use crate::fast::try_outside;

@@ -1,6 +1,5 @@
 //! The release of a mutex, and the handoff to the first waiter.
 ghost use Rattle.std.specs.Prelude.{◌≡◌, ◌≢◌, ◌<◌, ◌+◌, ◌%◌, false, IsSome, IfSome, length, ◌≤◌};
-ghost use Rattle.lock_core.specs.declared.view.Held.TheVariants.{Alone};
 ghost use Rattle.lock_core.specs.Views.{SpinHolds, SpinRests};
 ghost use Rattle.lock_core.specs.Kinds.{mutex, wakes_alone};
 ghost use Rattle.lock_core.specs.Locking.{Releases};
@@ -8,6 +7,7 @@ ghost use Rattle.lock_core.specs.SiteHandles.{plan_of, view_of, hand_in, task_in
 ghost use Rattle.lock_core.specs.Tallies.{raised};
 ghost use Rattle.mutex_slow.specs.Mutexes.{OwesNoWake};
 ghost use Rattle.mutex_slow.specs.MutexPlaces.{seen_of, KeepsHand, StandsSame, IsOutside, OwesWake, IsToWake, KeepsWakes, dozes_of, task_of, IsFreed, EndsUnasked, FindsAsked, NamesFirst, KeepsAppends, WakesFirst, EndsHold};
+ghost use Rattle.mutex_slow.specs.Types.{Alone};
 
 use crate::rule::MutexRule;
 use crate::wait_lock;

@@ -1,6 +1,5 @@
 //! The tries and sleeps of a waiter.
 ghost use Rattle.std.specs.Prelude.{◌≡◌, ◌+◌, true, false, IsSome, IfOk, IfErr, ◌≤◌};
-ghost use Rattle.lock_core.specs.declared.view.Held.TheVariants.{No};
 ghost use Rattle.lock_core.specs.Views.{SpinHolds, SpinRests};
 ghost use Rattle.lock_core.specs.Locking.{SawPending};
 ghost use Rattle.lock_core.specs.Signals.{OnlyConsumed};
@@ -9,6 +8,7 @@ ghost use Rattle.lock_core.specs.Tallies.{raised};
 ghost use Rattle.wake_duty.specs.WakeSteps.{HasTried};
 ghost use Rattle.mutex_slow.specs.Mutexes.{wait_state_of};
 ghost use Rattle.mutex_slow.specs.MutexPlaces.{seen_of, TakesAlone, TakesOpen, KeepsHand, KeepsMisses, KeepsFronts, StandsSame, IsInLine, HasFailed, KeepsWakes, SetsNoWord, dozes_of, KeepsAppends};
+ghost use Rattle.mutex_slow.specs.Types.{No};
 ghost use Rattle.cpu_task.specs.CpuCounting.{Dozes, DozesOnce, Rises, SleepsInTurns};
 
 use crate::leave::interrupted;

@@ -1,12 +1,11 @@
 //! Optimistic spinning: the tries of the task at the head of the spin queue.
 ghost use Rattle.std.specs.Prelude.{◌≡◌, true, false, IsSome, ◌≤◌};
-ghost use Rattle.lock_core.specs.declared.view.Held.TheVariants.{No};
 ghost use Rattle.lock_core.specs.Locking.{OnlyTried};
 ghost use Rattle.lock_core.specs.SiteHandles.{view_of, task_in, held_in, SitsAt, MovesOn};
 ghost use Rattle.mutex_slow.specs.Mutexes.{OwesNoWake};
 ghost use Rattle.mutex_slow.specs.MutexPlaces.{seen_of, TakesAlone, TakesOpen, StandsSame, IsOutside, KeepsWakes};
+ghost use Rattle.mutex_slow.specs.Types.{No, Head};
 ghost use Rattle.cpu_task.specs.CpuCounting.{Rises};
-ghost use Rattle.osq_nodes.specs.declared.node.Place.TheVariants.{Head};
 ghost use Rattle.osq_nodes.specs.OsqHandles as spinners;
 
 use crate::fast::try_outside;

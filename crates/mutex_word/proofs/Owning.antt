@@ -8,11 +8,6 @@ use Rattle.atomic_table.proofs.Lists.{at_map, set_again}
 use Rattle.word_bits.specs.LockWords.{Unavailable}
 use Rattle.word_bits.specs.Objects.{Obj}
 use Rattle.word_bits.specs.Histories.{Plan}
-use Rattle.lock_core.specs.declared.op.Op.TheVariants.{Exchange, Or, And, Load}
-use Rattle.lock_core.specs.declared.view.View.{View}
-use Rattle.lock_core.specs.declared.view.Hand.{Hand}
-use Rattle.lock_core.specs.declared.view.Held.TheVariants.{No, Alone}
-use Rattle.lock_core.specs.declared.view.Stage.TheVariants.{Rest}
 use Rattle.lock_core.specs.Layout.{site}
 use Rattle.lock_core.specs.Views.{hand_of, held_of, handed, ticked, took}
 use Rattle.lock_core.specs.Sites.{HandGoes, SiteKept, HasPlan}
@@ -26,8 +21,6 @@ use Rattle.mutex_word.specs.OwnerTries.{IsFail, IsLawful, IsTake, IsLeft, IsMine
 use Rattle.word_bits.specs.declared.TheConstants.{MAX_TASKS}
 use Rattle.lock_core.specs.Totals.{total}
 use Rattle.lock_core.specs.Holding.{Learns, missed, released}
-use Rattle.mutex_word.specs.declared.host.Turn.{Turn}
-use Rattle.mutex_word.specs.declared.host.Turn.TheVariants.{Take, Ask, Free, Flag, Clear, Fail}
 use Rattle.mutex_word.specs.OwnerPlays.{Tried, Freed, Flagged, SeenBy, Looked, TookBy, AskedBy, Mine, LeftBy}
 use Rattle.mutex_word.specs.Laws.OwnKinds.{own-flags, own-clears, own-asks, own-takes-free, own-takes-picked, own-leaves, or-one, or-odd, and-clears}
 use Rattle.word_bits.specs.OwnerWord.{task_code}
@@ -35,6 +28,7 @@ use lib.Bits.{bit_and, bit_or}
 use mathlib.Core.Logic.{dite}
 use native.Mathlib.Decide.{ℕ_discrete}
 use Rattle.mutex_word.specs.Laws.Own.{Named, none-holds, no-holders, held-word, own-takes, own-frees, own-stays}
+use Rattle.mutex_word.specs.Types.{Exchange, Or, And, Load, View, Hand, No, Alone, Rest, Turn, Take, Ask, Free, Flag, Clear, Fail}
 
 -- a release leaves another way to hold
 hand-frees : (h : Hand) (word : ℕ) → h.held ≡ Alone → HandGoes h (released h word)

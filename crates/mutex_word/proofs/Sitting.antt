@@ -3,17 +3,12 @@ use Rattle.std.proofs.Common.{Bool, ◌≡◌, true, false, ℕ, ◌+◌, ◌*�
 use Rattle.atomic_table.specs.Table.{Me}
 use Rattle.atomic_table.specs.Seated.{TableId}
 use Rattle.word_bits.specs.Histories.{Plan}
-use Rattle.lock_core.specs.declared.view.Seen.{Seen}
-use Rattle.lock_core.specs.declared.view.Saw.{Saw}
-use Rattle.lock_core.specs.declared.pass.Face.{Face}
 use Rattle.lock_core.specs.Plans.{IsSmall}
 use Rattle.lock_core.specs.Views.{handed}
 use Rattle.lock_core.specs.SitePasses.{Sits}
-use Rattle.lock_core.specs.declared.view.View.{View}
 use Rattle.lock_core.proofs.Sitting.{sits-on, sits-held}
-use Rattle.mutex_word.specs.declared.host.Turn.{Turn}
-use Rattle.mutex_word.specs.declared.host.Turn.TheVariants.{Fail}
 use Rattle.mutex_word.specs.OwnerTries.{SawWord, missing}
+use Rattle.mutex_word.specs.Types.{Seen, Saw, Face, View, Turn, Fail}
 use Rattle.mutex_word.proofs.Owning.{fail-or-on}
 use Rattle.lock_core.proofs.RowLaws.{same-some}
 use Rattle.lock_core.specs.Holding.{missed}

@@ -1,11 +1,11 @@
 -- What the table of tries says of a word.
 use Rattle.std.proofs.Common.{◌≡◌, ◌≢◌, inl, inr, ℕ, zero, suc, ◌+◌, ◌*◌, ◌/◌, ◌%◌, ◌==◌, ◌<◌, Bool, true, false, Option, Some, None, IfSome, refl, sym, subst, arith}
-use Rattle.word_bits.specs.declared.owner.Owner.{Owner}
 use Rattle.word_bits.specs.OwnerWord.{IsOwner, owner_word, task_code, bit}
 use Rattle.mutex_word.specs.declared.word_steps.Try.{Try}
 use Rattle.mutex_word.specs.Owners.{IsOwnerWord}
 use Rattle.mutex_word.specs.OwnerWordSteps.{try_of, try_named, release_of, handoff_of}
 use Rattle.mutex_word.specs.OwnerTries.{IsLawful, IsLeft, IsReleased, IsHanded, Says}
+use Rattle.mutex_word.specs.Types.{Owner}
 use Rattle.word_bits.specs.declared.TheConstants.{MAX_TASKS}
 use Rattle.lock_core.proofs.HandLaws.{not-both}
 use Rattle.std.proofs.lemmas.Bool.Decides.{nat_tests}

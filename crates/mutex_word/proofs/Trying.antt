@@ -4,17 +4,13 @@ use mathlib.Core.Logic.{dite}
 use native.Mathlib.Decide.{ℕ_discrete}
 use Rattle.word_bits.specs.Objects.{Obj}
 use Rattle.word_bits.specs.Histories.{Plan}
-use Rattle.lock_core.specs.declared.view.View.{View}
-use Rattle.lock_core.specs.declared.view.Hand.{Hand}
-use Rattle.lock_core.specs.declared.view.Moment.{Moment}
 use Rattle.lock_core.specs.Pasts.{FoundAt, FoundAtStep, GoesOn, IsOwnStep}
 use Rattle.lock_core.specs.Laws.SiteRun.{found-at-step}
-use Rattle.mutex_word.specs.declared.host.Turn.{Turn}
-use Rattle.mutex_word.specs.declared.host.Turn.TheVariants.{Ask}
 use Rattle.mutex_word.specs.declared.tries.Tried.{Tried}
 use Rattle.mutex_word.specs.declared.tries.Tried.TheVariants.{Took, Asked, Failed}
 use Rattle.mutex_word.specs.Holders.{TakesOwner, turns}
 use Rattle.mutex_word.specs.OwnerTries.{FindsUnasked, IsFail, MayTry, SawWord, Acted, CameTo, missing}
+use Rattle.mutex_word.specs.Types.{View, Hand, Moment, Turn, Ask}
 use Rattle.mutex_word.proofs.Owning.{fail-or-on}
 
 -- a step that found no handoff asked for leaves it to the next one to tell

@@ -3,16 +3,11 @@ use Rattle.std.specs.Prelude.{◌/◌, ◌⊎◌, ◌≡◌, ◌≢◌, ℕ, ◌
 use Rattle.word_bits.specs.declared.TheConstants.{MAX_TASKS}
 use mathlib.Core.Option.{some}
 use lib.ListN.{get_elem?}
-use Rattle.word_bits.specs.declared.entry.Entry.{Entry}
+use Rattle.mutex_word.specs.Types.{Entry, Turn, Fail, Take, Ask, Free, Flag, Clear, View, Hand, Held, No, Shared, Alone}
 use Rattle.word_bits.specs.OwnerWord.{task_code, owner_word}
 use Rattle.word_bits.specs.Objects.{Obj}
 use Rattle.word_bits.specs.Histories.{Plan}
-use Rattle.mutex_word.specs.declared.host.Turn.{Turn}
-use Rattle.mutex_word.specs.declared.host.Turn.TheVariants.{Fail, Take, Ask, Free, Hand as HandOn, Flag, Clear}
-use Rattle.lock_core.specs.declared.view.View.{View}
-use Rattle.lock_core.specs.declared.view.Hand.{Hand}
-use Rattle.lock_core.specs.declared.view.Held.{Held}
-use Rattle.lock_core.specs.declared.view.Held.TheVariants.{No, Shared, Alone}
+use Rattle.mutex_word.specs.declared.host.Turn.TheVariants.{Hand as HandOn}
 use Rattle.lock_core.specs.Totals.{total}
 use Rattle.lock_core.specs.ViewParts.{Each}
 use Rattle.lock_core.specs.Views.{held_of, handed, took}

@@ -1,3 +1,4 @@
+pub mod Types
 pub mod Owners
 pub mod OwnerWordSteps
 pub mod Holders

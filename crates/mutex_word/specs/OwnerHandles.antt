@@ -3,11 +3,7 @@ use Rattle.std.specs.Prelude.{ℕ, List, Option}
 use Rattle.word_bits.specs.LockWords.{Unavailable}
 use Rattle.word_bits.specs.Objects.{Obj}
 use Rattle.word_bits.specs.Histories.{Plan}
-use Rattle.lock_core.specs.declared.view.Hand.{Hand}
-use Rattle.lock_core.specs.declared.view.Held.{Held}
-use Rattle.lock_core.specs.declared.view.Moment.{Moment}
-use Rattle.lock_core.specs.declared.view.Past.{Past}
-use Rattle.lock_core.specs.declared.view.View.{View}
+use Rattle.mutex_word.specs.Types.{Hand, Held, Moment, Past, View}
 use Rattle.lock_core.specs.SiteHandles as inner
 use Rattle.lock_core.specs.Shown as callers
 use Rattle.lock_core.specs.Shown.{Shown, no_line, shown}

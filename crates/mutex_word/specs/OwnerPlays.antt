@@ -1,18 +1,14 @@
 -- What a step on the owner word tells its pass.
 use Rattle.std.specs.Prelude.{◌≡◌, ◌≢◌, ℕ, ◌+◌, ◌/◌, ◌<◌, Bool, List, Some, ◌*◌}
 use Rattle.word_bits.specs.declared.TheConstants.{MAX_TASKS}
-use Rattle.word_bits.specs.declared.entry.Entry.{Entry}
 use Rattle.word_bits.specs.Objects.{Obj}
 use Rattle.word_bits.specs.Histories.{Plan}
 use Rattle.atomic_table.specs.Table.{Step}
-use Rattle.mutex_word.specs.declared.host.Turn.{Turn}
-use Rattle.mutex_word.specs.declared.host.Turn.TheVariants.{Take, Ask, Free, Fail}
-use Rattle.lock_core.specs.declared.view.View.{View}
-use Rattle.lock_core.specs.declared.view.Held.TheVariants.{Alone}
 use Rattle.lock_core.specs.SitePlays.{Sat, Turns}
 use Rattle.lock_core.specs.Views.{handed, ticked, took}
 use Rattle.mutex_word.specs.Holders.{turns}
 use Rattle.mutex_word.specs.OwnerTries.{IsFail, IsLawful, IsMine, missing}
+use Rattle.mutex_word.specs.Types.{Entry, Turn, Take, Ask, Free, Fail, View, Alone}
 use Rattle.lock_core.specs.Holding.{Learns, missed, released}
 
 module _ {E : Type 0} (turned : Turn → View E → E) where

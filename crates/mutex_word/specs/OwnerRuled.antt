@@ -3,18 +3,15 @@ use Rattle.std.specs.Prelude.{◌≡◌, ℕ, ◌%◌, List, [], length, map, sl
 use Rattle.word_bits.specs.LockWords.{owned}
 use Rattle.word_bits.specs.Objects.{Obj}
 use Rattle.word_bits.specs.Histories.{Plan}
-use Rattle.mutex_word.specs.declared.host.Turn.{Turn}
-use Rattle.lock_core.specs.declared.view.View.{View}
 use Rattle.lock_core.specs.declared.layout.TheConstants.{SPIN_ROOM}
 use Rattle.lock_core.specs.Layout.{site, width}
 use Rattle.lock_core.specs.Views.{hand_of}
 use Rattle.lock_core.specs.Sites.{SiteKept}
 use Rattle.lock_core.specs.Moves.{SiteMove}
-use Rattle.lock_core.specs.declared.view.Hand.{Hand}
-use Rattle.lock_core.specs.declared.view.Moment.{Moment}
 use Rattle.lock_core.specs.Pasts.{opening}
 use Rattle.lock_core.specs.SiteStated.{IsSite}
 use Rattle.mutex_word.specs.Holders.{OwnKept, IsTurn, StatesHolder}
+use Rattle.mutex_word.specs.Types.{Turn, View, Hand, Moment}
 
 -- the place of the owner word, behind the room of the spin locks
 abbrev pub owner_at : ℕ

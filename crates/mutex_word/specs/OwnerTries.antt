@@ -4,19 +4,15 @@ use Rattle.word_bits.specs.declared.TheConstants.{MAX_TASKS}
 use Rattle.word_bits.specs.OwnerWord.{task_code}
 use Rattle.word_bits.specs.Objects.{Obj}
 use Rattle.word_bits.specs.Histories.{Plan}
-use Rattle.lock_core.specs.declared.view.View.{View}
-use Rattle.lock_core.specs.declared.view.Hand.{Hand}
-use Rattle.lock_core.specs.declared.view.Held.TheVariants.{No}
-use Rattle.lock_core.specs.declared.view.Moment.{Moment}
 use Rattle.lock_core.specs.Holding.{missed, released}
 use Rattle.lock_core.specs.Pasts.{FoundAt, FoundAtStep}
-use Rattle.mutex_word.specs.declared.host.Turn.{Turn}
-use Rattle.mutex_word.specs.declared.host.Turn.TheVariants.{Fail, Take, Ask, Free, Hand as HandOn}
+use Rattle.mutex_word.specs.declared.host.Turn.TheVariants.{Hand as HandOn}
 use Rattle.mutex_word.specs.declared.tries.Tried.{Tried}
 use Rattle.mutex_word.specs.declared.tries.Tried.TheVariants.{Took, Asked, Failed}
 use Rattle.mutex_word.specs.declared.word_steps.Try.{Try}
 use Rattle.mutex_word.specs.declared.word_steps.Try.TheVariants.{Take as Taking, Ask as Asking, Fail as Failing}
 use Rattle.mutex_word.specs.Holders.{IsShut, IsAsk, TakesOwner, turns}
+use Rattle.mutex_word.specs.Types.{View, Hand, No, Moment, Turn, Fail, Take, Ask, Free}
 
 -- a word that can stand there
 pub record IsLawful (n : ℕ) : Type 0 where

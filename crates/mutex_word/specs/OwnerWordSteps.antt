@@ -1,10 +1,10 @@
 -- The steps on an owner word.
 use Rattle.std.specs.Prelude.{ℕ, ◌==◌, Bool, true, false, List, [], ◌∷◌, Contains, Option, Some, None, if◌then◌else◌}
-use Rattle.word_bits.specs.declared.owner.Owner.{Owner}
 use Rattle.word_bits.specs.OwnerWord.{owner_word}
 use Rattle.mutex_word.specs.declared.word_steps.Try.{Try}
 use Rattle.mutex_word.specs.declared.word_steps.Try.TheVariants.{Take, Ask, Fail}
 use Rattle.mutex_word.specs.Owners.{Mutex, States}
+use Rattle.mutex_word.specs.Types.{Owner}
 
 -- what a try by this task makes of a word that names a task: pickup, ask, handoff
 abbrev pub try_named : Owner → (mine ask : Bool) → Try

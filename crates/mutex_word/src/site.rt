@@ -1,7 +1,6 @@
 //! Sites with an owner word.
 ghost use Rattle.std.specs.Prelude.{◌≡◌, ◌<◌, false, None, IsSome, Bool, IfOk, IfErr, ◌≤◌, [], ◌∷◌, length};
 ghost use Rattle.word_bits.specs.LockWords.{owned};
-ghost use Rattle.lock_core.specs.declared.view.Held.TheVariants.{No, Alone};
 ghost use Rattle.lock_core.specs.Kinds.{mutex, wakes_alone};
 ghost use Rattle.lock_core.specs.Locking.{Misses, Releases, Takes};
 ghost use Rattle.lock_core.specs.Records.{IsPlan};
@@ -11,6 +10,7 @@ ghost use Rattle.lock_core.specs.SiteStated.{IsNew, IsSiteMove};
 ghost use Rattle.lock_core.specs.Linear.{IsLinearizable};
 ghost use Rattle.mutex_word.specs.Holders.{own_word, TakesOwner, MissesOwner, ReleasesOwner};
 ghost use Rattle.mutex_word.specs.OwnerRuled.{IsOwnerSiteThen, newest, owner_at, unmarked, unturned};
+ghost use Rattle.mutex_word.specs.Types.{No, Alone};
 
 use crate::rule::OwnerRule;
 use crate::site_steps;

@@ -1,11 +1,11 @@
 //! The single steps on the owner word of any host.
 ghost use Rattle.std.specs.Prelude.{bit_or, ◌+◌, ◌*◌, ◌%◌, ◌≡◌, ℕ, ◌<◌, ◌/◌, false, IfSome, IsSome, IfOk, IfErr};
-ghost use Rattle.lock_core.specs.declared.view.Held.TheVariants.{No, Alone};
-ghost use Rattle.mutex_word.specs.declared.host.Turn.TheVariants.{Take as TakeTurn, Free as FreeTurn, Flag, Clear};
+ghost use Rattle.mutex_word.specs.declared.host.Turn.TheVariants.{Take as TakeTurn, Free as FreeTurn};
 ghost use Rattle.lock_core.specs.Views.{ticked};
 ghost use Rattle.lock_core.specs.Pasts.{FoundAt};
 ghost use Rattle.mutex_word.specs.Holders.{own_word, turns, TakesOwner, MissesOwner, ReleasesOwner, HasFlags};
 ghost use Rattle.mutex_word.specs.OwnerPlays.{Tried, Freed, Flagged};
+ghost use Rattle.mutex_word.specs.Types.{No, Alone, Flag, Clear};
 ghost use Rattle.lock_core.specs.SiteHandles.{plan_of, view_of, hand_in, past_of, task_in, held_in, SitsAt, StepsAt, SaysSame};
 
 use crate::host::OwnerHost;

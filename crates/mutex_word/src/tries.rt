@@ -1,15 +1,14 @@
 //! Tries and releases: loops over exchanges of the owner word of any host.
 ghost use Rattle.std.specs.Prelude.{◌≡◌, ◌≢◌, ℕ, ◌<◌, Bool, false, Option, Some, IsSome, IfSome, IfOk, IfErr};
-ghost use Rattle.lock_core.specs.declared.view.Held.TheVariants.{No, Alone};
 ghost use Rattle.lock_core.specs.Views.{ticked};
 ghost use Rattle.lock_core.specs.Pasts.{FoundAt};
 ghost use Rattle.lock_core.specs.SiteHandles.{IsLatest, plan_of, view_of, hand_in, past_of, task_in, held_in, SitsAt, StepsAt, SaysSame};
-ghost use Rattle.mutex_word.specs.declared.host.Turn.{Turn};
-ghost use Rattle.mutex_word.specs.declared.host.Turn.TheVariants.{Take as TakeTurn, Ask as AskTurn, Free};
+ghost use Rattle.mutex_word.specs.declared.host.Turn.TheVariants.{Take as TakeTurn, Ask as AskTurn};
 ghost use Rattle.mutex_word.specs.declared.tries.Tried.TheVariants.{Took, Failed};
 ghost use Rattle.mutex_word.specs.Holders.{IsAsk, TakesOwner, turns};
 ghost use Rattle.mutex_word.specs.OwnerTries.{Acted, CameTo, FindsAsked, FindsOpen, FindsUnasked, HandsOver, IsFail, IsLeft, IsMine, IsOpen, IsTake, LeavesFlags, LeavesHanded, Left, MayFail, MayHandOver, MayRelease, MayTry, ReleasedTo, Says, SawWord};
 ghost use Rattle.mutex_word.specs.OwnerPlays.{AskedBy, LeftBy, Looked, Mine, TookBy};
+ghost use Rattle.mutex_word.specs.Types.{No, Alone, Turn, Free};
 
 use crate::host::OwnerHost;
 use crate::word_steps::{Try, handoff_word, release_step, try_step};

@@ -1,17 +1,16 @@
 -- The queues of a run: each came of the one before it, and the first is empty.
 use Rattle.std.proofs.Common.{◌≡◌, ℕ, zero, suc, ◌+◌, List, [], ◌∷◌, length, map, drop, replicate, refl, sym, ap, ◌∙◌, subst, arith}
 use Rattle.std.proofs.lemmas.List.{get_or-take, get_or_append_left, get_or-replicate, length-replicate}
-use Rattle.lock_core.specs.declared.view.Moment.{Moment}
 use Rattle.lock_core.specs.declared.layout.TheConstants.{LOCK_WORDS}
 use Rattle.lock_core.specs.Layout.{fresh, calls_at}
 use Rattle.lock_core.specs.Plans.{call_words}
 use Rattle.lock_core.specs.Pasts.{Instant, moment, Moves, Tail, Paced, Ran}
-use Rattle.osq_nodes.specs.declared.node.Node.{Node}
 use Rattle.osq_nodes.specs.OsqPlaces.{node_marks}
 use Rattle.osq_nodes.specs.Words.{tail_in, prev_in, locked_in}
 use Rattle.osq_nodes.specs.OsqStated.{row_at, places_at, IsQueueAt, Changes, HasBecome}
 use Rattle.osq_nodes.specs.Laws.Walks.{queue-same}
 use Rattle.osq_nodes.specs.OsqRuled.{OsqKept, OsqMoves, newest, no_calls}
+use Rattle.osq_nodes.specs.Types.{Moment, Node}
 
 -- what the passes keep of an instant
 abbrev kept_of : Instant Node → Moment

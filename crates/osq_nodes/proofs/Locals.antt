@@ -5,18 +5,15 @@ use native.Mathlib.Decide.{ℕ_discrete}
 use lib.Seq.{set-get_or}
 use Rattle.word_bits.specs.declared.TheConstants.{MAX_TASKS}
 use Rattle.lock_core.specs.declared.layout.TheConstants.{LOCK_WORDS}
-use Rattle.lock_core.specs.declared.op.Op.{Op}
-use Rattle.lock_core.specs.declared.op.Op.TheVariants.{Load, Store, Swap, Exchange}
 use Rattle.lock_core.specs.NodeLists.{Has, IsFirst, without}
 use Rattle.lock_core.specs.Laws.NodeList.{left-has, right-has, first-has, last-has}
-use Rattle.osq_nodes.specs.declared.node.Place.{Place}
-use Rattle.osq_nodes.specs.declared.node.Place.TheVariants.{Out, Cleared, Swapped, Linking, Waiting, Unlinked, Splicing, Relinking, Head, Granting}
 use Rattle.osq_nodes.specs.Words.{code_in, tail_at, tail_in, next_in, prev_in, locked_in, next_at, prev_at, locked_at}
 use Rattle.osq_nodes.specs.OsqPlaces.{is_swap, waits_at}
 use Rattle.osq_nodes.specs.OsqStated.{Changes}
 use Rattle.osq_nodes.specs.OsqKept.{Owed, QueueKept, RowKept, with_at}
 use Rattle.osq_nodes.specs.OsqRuled.{FindsTail, Local}
 use Rattle.osq_nodes.specs.OsqSteps.{swap_place, look_place, try_place, take_place, taking_of, IsCodeOrNone}
+use Rattle.osq_nodes.specs.Types.{Op, Load, Store, Swap, Exchange, Place, Out, Cleared, Swapped, Linking, Waiting, Unlinked, Splicing, Relinking, Head, Granting}
 use Rattle.osq_nodes.proofs.Updating.{with_at-sets, sets-next, sets-prev, sets-locked, wrote-next, wrote-prev, wrote-locked, wrote-tail}
 use Rattle.osq_nodes.proofs.Keeping.{there}
 use Rattle.osq_nodes.proofs.Stepping.{clears, enters-first, enters, stores-prev, links-itself, sees-grant, lets-go, takes-own, grants, leaves-last, takes-both, leaves-alone, leaves-granting, leaves-apart}

@@ -12,11 +12,6 @@ use Rattle.word_bits.specs.Histories.{Plan}
 use Rattle.atomic_table.specs.Table.{Me, keeps}
 use Rattle.atomic_table.specs.Seated.{TableId}
 use Rattle.atomic_table.proofs.Lists.{at_map}
-use Rattle.lock_core.specs.declared.op.Op.{Op}
-use Rattle.lock_core.specs.declared.view.Hand.{Hand}
-use Rattle.lock_core.specs.declared.view.Moment.{Moment}
-use Rattle.lock_core.specs.declared.view.Seen.{Seen}
-use Rattle.lock_core.specs.declared.pass.Face.{Face}
 use Rattle.lock_core.specs.declared.layout.TheConstants.{LOCK_WORDS}
 use Rattle.lock_core.specs.Nothings.{never, nothing}
 use Rattle.lock_core.specs.Ops.{word_after, told_by}
@@ -32,9 +27,6 @@ use Rattle.lock_core.specs.Laws.Move.{hand-stays, leaves-site, spin-idle, set-mo
 use Rattle.lock_core.specs.Totals.{total, total-at, total-two}
 use Rattle.lock_core.specs.ViewParts.{each-set, keep_part, set-there}
 use Rattle.lock_core.proofs.HandLaws.{not-both}
-use Rattle.osq_nodes.specs.declared.node.Place.{Place}
-use Rattle.osq_nodes.specs.declared.node.Place.TheVariants.{Out}
-use Rattle.osq_nodes.specs.declared.node.Node.{Node}
 use Rattle.osq_nodes.specs.declared.pass.OsqPass.{OsqPass}
 use Rattle.osq_nodes.specs.OsqPlaces.{is_swap, is_coming_first, waits_at, takes_at}
 use Rattle.osq_nodes.specs.OsqSteps.{placed, swapped, taking_of, IsCodeOrNone}
@@ -44,6 +36,7 @@ use Rattle.osq_nodes.specs.OsqStated.{Changes}
 use Rattle.osq_nodes.specs.OsqRuled.{V, Seated, OsqKept, OsqMoves, NodeStep, FindsTail, Local, stepped}
 use Rattle.osq_nodes.specs.Laws.OsqRuled.{goes, number-one}
 use Rattle.osq_nodes.specs.OsqPasses.{OnQueue}
+use Rattle.osq_nodes.specs.Types.{Op, Hand, Moment, Seen, Face, Place, Out, Node}
 use Rattle.osq_nodes.proofs.Updating.{with_at-sets}
 use Rattle.osq_nodes.proofs.Locals.{relocate}
 

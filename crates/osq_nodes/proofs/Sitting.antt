@@ -3,13 +3,10 @@ use Rattle.std.proofs.Common.{◌≡◌, ◌≤◌, sym, ap, ◌∙◌, subst}
 use Rattle.word_bits.specs.Histories.{Plan}
 use Rattle.atomic_table.specs.Table.{Me}
 use Rattle.atomic_table.specs.Seated.{TableId}
-use Rattle.lock_core.specs.declared.view.Seen.{Seen}
-use Rattle.lock_core.specs.declared.view.Hand.{Hand}
-use Rattle.lock_core.specs.declared.pass.Face.{Face}
 use Rattle.lock_core.specs.Views.{SpinRests}
 use Rattle.lock_core.proofs.Sitting.{sits-on}
-use Rattle.osq_nodes.specs.declared.node.Node.{Node}
 use Rattle.osq_nodes.specs.OsqPasses.{OnQueue}
+use Rattle.osq_nodes.specs.Types.{Seen, Hand, Face, Node}
 
 module _ {k : Plan} {table seat seat' : TableId} {me me' : Me (Unit {0}) (Seen Node)} {face face' : Face} where
   -- after a step that leaves its hand

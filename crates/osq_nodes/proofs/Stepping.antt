@@ -1,12 +1,11 @@
 -- Each kind of step keeps the queue's rule.
 use Rattle.std.proofs.Common.{◌≡◌, ◌≢◌, ℕ, zero, suc, ◌<◌, ◌⊎◌, List, [], ◌∷◌, ◌++◌, sym, refl, ap, ◌∙◌, subst, inl, inr, ⊎_elim, arith}
-use Rattle.osq_nodes.specs.declared.node.Place.{Place}
-use Rattle.osq_nodes.specs.declared.node.Place.TheVariants.{Out, Cleared, Swapped, Linking, Waiting, Unlinked, Splicing, Relinking, Head, Granting}
 use Rattle.lock_core.specs.NodeLists.{Has, IsFirst, Precedes, last_from, without}
 use Rattle.osq_nodes.specs.OsqPlaces.{Owes}
 use Rattle.osq_nodes.specs.OsqKept.{IsBehind, IsHead, IsCode, Owed, IsAt, Sets, QueueKept, with_at}
 use Rattle.osq_nodes.specs.Laws.Walks.{owes-one}
 use Rattle.osq_nodes.specs.OsqStated.{OwnsLinks}
+use Rattle.osq_nodes.specs.Types.{Place, Out, Cleared, Swapped, Linking, Waiting, Unlinked, Splicing, Relinking, Head, Granting}
 use Rattle.osq_nodes.proofs.Updating.{with_at-sets}
 use Rattle.lock_core.specs.Laws.NodeList.{first-has, first-same, first-before, left-has, right-has, same-predecessor, same-successor, precedes-apart, has-cases, last-precedes, last-none, last-snoc, last-stays, last-leaves, alone, once-snoc, precedes-snoc, snoc-precedes, snoc-links, snoc-has, has-snoc, first-snoc, snoc-first, kept-has, kept-first, kept-precedes}
 use Rattle.osq_nodes.proofs.Keeping.{carry, at-keeps, same-task, no-code, there, keeps-behind, keeps-head, keeps-each, takes, puts, removes}

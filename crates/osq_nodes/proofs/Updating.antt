@@ -2,8 +2,8 @@
 use Rattle.std.proofs.Common.{◌≡◌, ℕ, ◌<◌, Bool, if◌then◌else◌, List, length, set, sym, refl, ap, subst, arith, eq-eqb, ne_eqb, get_or-set_same, get_or-set_other}
 use Rattle.word_bits.specs.declared.TheConstants.{MAX_TASKS}
 use Rattle.lock_core.specs.declared.layout.TheConstants.{LOCK_WORDS}
-use Rattle.osq_nodes.specs.declared.node.Place.{Place}
 use Rattle.osq_nodes.specs.OsqKept.{Sets, QueueKept, RowKept, with_at}
+use Rattle.osq_nodes.specs.Types.{Place}
 use Rattle.osq_nodes.specs.Words.{next_at, prev_at, locked_at, tail_in, next_in, prev_in, locked_in}
 
 pub with_at-sets : {A : Type 0} (f : ℕ → A) (i : ℕ) (v : A) → Sets f (with_at f i v) i v

@@ -1,3 +1,4 @@
+pub mod Types
 pub mod Words
 pub mod OsqPlaces
 pub mod OsqStated

@@ -2,17 +2,15 @@
 use Rattle.std.specs.Prelude.{◌≡◌, ◌≢◌, ◌<◌, ℕ, suc, Bool, true, false, List, Option, Some, length}
 use mathlib.Core.Option.{some}
 use lib.ListN.{get_elem?}
-use Rattle.lock_core.specs.declared.view.Marks.{Marks}
-use Rattle.lock_core.specs.declared.view.Moment.{Moment}
 use Rattle.lock_core.specs.SiteHandles as inner
 use Rattle.lock_core.specs.Pasts.{FoundAt, FoundAtStep}
-use Rattle.osq_nodes.specs.declared.node.Place.{Place}
 use Rattle.osq_nodes.specs.declared.pass.OsqPass.{OsqPass}
 use Rattle.osq_nodes.specs.declared.queue.Osq.{Osq}
 use Rattle.osq_nodes.specs.OsqPasses.{OnQueue}
 use Rattle.osq_nodes.specs.OsqPlaces as Marked
 use Rattle.osq_nodes.specs.OsqStated.{places_at}
 use Rattle.osq_nodes.specs.OsqRuled.{V}
+use Rattle.osq_nodes.specs.Types.{Marks, Moment, Place}
 use Rattle.osq_nodes.specs.Words.{tail_at, next_at}
 
 -- for how many tasks the queue is
@@ -66,7 +64,7 @@ KeepsPast old new = inner.KeepsPast old.pass new.pass
 abbrev pub IsLatest : OsqPass → Type 0
 IsLatest pass = inner.IsLatest pass.pass
 
--- it made steps at the queue: it is one of the queue's, with the number that it had, and its past goes on, up to its own last step
+-- it is one of the queue's, and keeps its number. Its past goes on, and ends at its own last step, which may lie before the call.
 pub record StepsAt (osq : Osq) (old new : OsqPass) : Type 0 where
   pub own : SitsAt osq new
   pub number : KeepsNumber old new

@@ -1,10 +1,9 @@
 -- The rule of a spin queue by itself: its words by task, and where each task is. It implies what is stated of the queue, and each step keeps it.
 use Rattle.std.specs.Prelude.{◌≡◌, ◌≢◌, ℕ, suc, ◌<◌, ◌==◌, if◌then◌else◌, List}
-use Rattle.osq_nodes.specs.declared.node.Place.{Place}
-use Rattle.osq_nodes.specs.declared.node.Place.TheVariants.{Out, Cleared, Swapped, Linking, Waiting, Unlinked, Splicing, Relinking, Head, Granting}
 use Rattle.lock_core.specs.NodeLists.{Has, IsFirst, Precedes, IsOnce, last_from}
 use Rattle.osq_nodes.specs.Words.{tail_in, next_in, prev_in, locked_in}
 use Rattle.osq_nodes.specs.OsqPlaces.{Owes}
+use Rattle.osq_nodes.specs.Types.{Place, Out, Cleared, Swapped, Linking, Waiting, Unlinked, Splicing, Relinking, Head, Granting}
 
 -- of a task that stands directly behind x: it stands there by what it knows or by its `prev`, and isn't granted
 abbrev pub IsBehind : ℕ → Place → ℕ → ℕ → Type 0

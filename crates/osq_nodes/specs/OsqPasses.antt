@@ -3,11 +3,9 @@ use Rattle.std.specs.Prelude.{◌≡◌, None}
 use Rattle.word_bits.specs.Histories.{Plan}
 use Rattle.atomic_table.specs.Table.{Me}
 use Rattle.atomic_table.specs.Seated.{TableId}
-use Rattle.lock_core.specs.declared.view.Seen.{Seen}
-use Rattle.lock_core.specs.declared.pass.Face.{Face}
+use Rattle.osq_nodes.specs.Types.{Seen, Face, Node}
 use Rattle.lock_core.specs.SitePasses.{Sits}
 use Rattle.lock_core.specs.Views.{HoldsNothing}
-use Rattle.osq_nodes.specs.declared.node.Node.{Node}
 
 pub record OnQueue (k : Plan) (table seat : TableId) (me : Me (Unit {0}) (Seen Node)) (face : Face) : Type 0 where
   pub sits : Sits k table seat me face

@@ -1,8 +1,6 @@
 -- What the place of a task says of it.
 use Rattle.std.specs.Prelude.{◌≡◌, ℕ, suc, ◌⊎◌, ◌==◌, Bool, true, false, if◌then◌else◌, List, [], ◌∷◌, slice_index, Option, None, Some}
-use Rattle.osq_nodes.specs.declared.node.Place.{Place}
-use Rattle.osq_nodes.specs.declared.node.Place.TheVariants.{Out, Cleared, Swapped, Linking, Waiting, Unlinked, Splicing, Relinking, Head, Granting}
-use Rattle.osq_nodes.specs.declared.node.Node.{Node}
+use Rattle.osq_nodes.specs.Types.{Place, Out, Cleared, Swapped, Linking, Waiting, Unlinked, Splicing, Relinking, Head, Granting, Node}
 
 -- the code of the task that a node stands behind: what its tail swap found until it has stored its own `prev`, and that word from then on
 abbrev pub back_of : Place → ℕ → ℕ

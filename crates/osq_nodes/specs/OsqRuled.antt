@@ -5,9 +5,6 @@ use lib.ListN.{get_elem?}
 use Rattle.word_bits.specs.declared.TheConstants.{MAX_TASKS}
 use Rattle.word_bits.specs.Histories.{Plan}
 use Rattle.lock_core.specs.declared.layout.TheConstants.{LOCK_WORDS}
-use Rattle.lock_core.specs.declared.view.View.{View}
-use Rattle.lock_core.specs.declared.view.Moment.{Moment}
-use Rattle.lock_core.specs.declared.op.Op.{Op}
 use Rattle.lock_core.specs.Nothings.{never, nothing}
 use Rattle.lock_core.specs.Ops.{word_after, told_by}
 use Rattle.lock_core.specs.Layout.{site, width}
@@ -17,13 +14,11 @@ use Rattle.lock_core.specs.Moves.{SiteMove}
 use Rattle.lock_core.specs.Pasts.{ChangesOneWord, Instant, instant, moment, opening}
 use Rattle.lock_core.specs.Totals.{total}
 use Rattle.lock_core.specs.ViewParts.{Each}
-use Rattle.osq_nodes.specs.declared.node.Place.{Place}
-use Rattle.osq_nodes.specs.declared.node.Place.TheVariants.{Out}
-use Rattle.osq_nodes.specs.declared.node.Node.{Node}
 use Rattle.osq_nodes.specs.Words.{row_of, tail_in}
 use Rattle.osq_nodes.specs.OsqPlaces.{is_swap, is_coming_first, node_marks}
 use Rattle.osq_nodes.specs.OsqStated.{Changes, QueueStep}
 use Rattle.osq_nodes.specs.OsqKept.{RowKept, with_at}
+use Rattle.osq_nodes.specs.Types.{View, Moment, Op, Place, Out, Node}
 
 abbrev pub V : Type 0
 V = View Node

@@ -1,15 +1,11 @@
 -- What the words and the views of a spin queue's table state, at each moment and of each step.
 use Rattle.std.specs.Prelude.{◌≡◌, ℕ, suc, ◌==◌, ◌⊎◌, ◌<◌, ◌≤◌, MatchBool, List, [], ◌∷◌, ◌++◌, reverse, slice_set, if◌then◌else◌, Option, None, Some}
-use Rattle.lock_core.specs.declared.view.Hand.{Hand}
-use Rattle.lock_core.specs.declared.view.Marks.{Marks}
-use Rattle.lock_core.specs.declared.view.Moment.{Moment}
 use Rattle.lock_core.specs.Totals.{total}
 use Rattle.lock_core.specs.Views.{named_of}
 use Rattle.lock_core.specs.NodeLists.{Has, IsFirst, Precedes, IsOnce, without}
-use Rattle.osq_nodes.specs.declared.node.Place.{Place}
-use Rattle.osq_nodes.specs.declared.node.Place.TheVariants.{Out, Cleared, Splicing, Head, Granting}
 use Rattle.osq_nodes.specs.Words.{code_in, row_of, tail_at, prev_at, locked_at, tail_in, next_in, prev_in, locked_in}
 use Rattle.osq_nodes.specs.OsqPlaces.{back_of, IsHeadNode, is_queued, Owes, waits_at, place_in}
+use Rattle.osq_nodes.specs.Types.{Hand, Marks, Moment, Place, Out, Cleared, Splicing, Head, Granting}
 
 module _ (prev locked : ℕ → ℕ) (place : ℕ → Place) where
   -- the walk from a code, each time to the node that the last one stands behind, up to the first head node

@@ -1,8 +1,7 @@
 -- What each step makes of what a pass knows.
 use Rattle.std.specs.Prelude.{◌≡◌, ℕ, zero, suc, ◌+◌, ◌-◌, ◌/◌, ◌==◌, ◌<◌, if◌then◌else◌}
-use Rattle.osq_nodes.specs.declared.node.Place.{Place}
-use Rattle.osq_nodes.specs.declared.node.Place.TheVariants.{Out, Cleared, Swapped, Linking, Waiting, Unlinked, Splicing, Relinking, Head, Granting}
 use Rattle.osq_nodes.specs.OsqRuled.{V, stepped}
+use Rattle.osq_nodes.specs.Types.{Place, Out, Cleared, Swapped, Linking, Waiting, Unlinked, Splicing, Relinking, Head, Granting}
 
 -- the pass goes on to a place
 abbrev pub placed : V → Place → V

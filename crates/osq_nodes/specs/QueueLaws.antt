@@ -1,10 +1,10 @@
 -- What every spin queue has: a head, and one task for each link that is missing.
 use Rattle.std.specs.Prelude.{◌≡◌, ◌≢◌, ℕ, List, []}
-use Rattle.lock_core.specs.declared.view.Moment.{Moment}
 use Rattle.lock_core.specs.NodeLists.{IsFirst, Precedes}
 use Rattle.osq_nodes.specs.Words.{next_in, locked_in}
 use Rattle.osq_nodes.specs.OsqPlaces.{IsHeadNode, Owes}
 use Rattle.osq_nodes.specs.OsqStated.{IsSpinQueue, places_at, row_at}
+use Rattle.osq_nodes.specs.Types.{Moment}
 
 -- a link between neighbours that is 0 is owed by exactly one task
 abbrev pub MissingLinksAreOwedOnce : Type 0

@@ -4,10 +4,10 @@ ghost use Rattle.word_bits.specs.declared.TheConstants.{MAX_TASKS};
 ghost use Rattle.lock_core.specs.SiteHandles.{plan_of};
 ghost use Rattle.lock_core.specs.Pasts.{BeganWith, EachMoment, Ran};
 ghost use Rattle.lock_core.specs.Views.{merged, ticked};
-ghost use Rattle.osq_nodes.specs.declared.node.Place.TheVariants.{Out, Waiting, Head};
 ghost use Rattle.osq_nodes.specs.OsqPlaces.{node_marks, waits_at, takes_at};
 ghost use Rattle.osq_nodes.specs.OsqRuled.{IsOsqMove, newest, no_calls};
 ghost use Rattle.osq_nodes.specs.OsqStated.{HasBecome, IsSpinQueue};
+ghost use Rattle.osq_nodes.specs.Types.{Out, Waiting, Head};
 
 use crate::pass::OsqPass;
 use crate::rule::QueueRule;

@@ -1,10 +1,10 @@
 //! The rule of a table that is a spin queue.
 ghost use Rattle.std.specs.Prelude.{◌≡◌, false};
-ghost use Rattle.osq_nodes.specs.declared.node.Place.TheVariants.{Out};
 ghost use Rattle.lock_core.specs.Nothings.{never};
 ghost use Rattle.osq_nodes.specs.OsqPlaces.{node_marks};
 ghost use Rattle.osq_nodes.specs.OsqRuled.{OsqKept, OsqMoves, idle};
 ghost use Rattle.osq_nodes.specs.Laws.OsqRuled.{osq-site, osq-sites, osq-opens, osq-splits, osq-joins};
+ghost use Rattle.osq_nodes.specs.Types.{Out};
 
 use crate::node::Node;
 use lock_core::{Nothing, SiteRule};

@@ -2,10 +2,10 @@
 ghost use Rattle.std.specs.Prelude.{◌≡◌, ◌≢◌, ◌-◌, ◌<◌, ◌≤◌, Some, MatchOption, MatchBool};
 ghost use Rattle.lock_core.specs.Pasts.{FoundAt};
 ghost use Rattle.lock_core.specs.Views.{ticked};
-ghost use Rattle.osq_nodes.specs.declared.node.Place.TheVariants.{Out, Cleared, Swapped, Linking, Waiting, Granting};
 ghost use Rattle.osq_nodes.specs.OsqHandles.{tasks_of, view_of, task_in, place_in, past_of, FoundNext, FoundOwn, FoundThere, SitsAt, StepsAt};
 ghost use Rattle.osq_nodes.specs.OsqPlaces.{waits_at, takes_at};
 ghost use Rattle.osq_nodes.specs.OsqSteps.{placed, fronted, swapped, IsCodeOrNone};
+ghost use Rattle.osq_nodes.specs.Types.{Out, Cleared, Swapped, Linking, Waiting, Granting};
 ghost use Rattle.osq_nodes.specs.Words.{code_in, next_at, tail_at, locked_at};
 
 use crate::layout::{TAIL, code, code_of, locked_of, next_of, prev_of};

@@ -8,21 +8,17 @@ use mathlib.Core.Logic.{dite}
 use native.Mathlib.Decide.{ℕ_discrete}
 use Rattle.word_bits.specs.Objects.{Obj}
 use Rattle.word_bits.specs.Histories.{Plan}
-use Rattle.lock_core.specs.declared.view.Held.{Held}
-use Rattle.lock_core.specs.declared.view.Held.TheVariants.{No, Alone}
-use Rattle.lock_core.specs.declared.view.Moment.{Moment}
 use Rattle.lock_core.specs.Pasts.{GoesOn, FoundAt, FoundAtStep, IsOwnStep, IsStepBy}
 use Rattle.lock_core.specs.Laws.SiteRun.{found-at-step}
 use Rattle.lock_core.proofs.HandLaws.{not-both}
 use Rattle.lock_core.proofs.RowLaws.{none-some}
-use Rattle.percpu_rwsem.specs.declared.view.Phase.{Phase}
-use Rattle.percpu_rwsem.specs.declared.view.Phase.TheVariants.{Idle, Added, Back, Reads, Blocks}
 use Rattle.percpu_rwsem.specs.PercpuHandles.{FindsZeros, Phased, SleepsBehind, SleepsEachTry, TakesSince}
 use Rattle.percpu_rwsem.specs.PercpuPlays.{TakesPhase, phased}
 use Rattle.percpu_rwsem.specs.PercpuRuled.{V, block_at, count_at}
 use Rattle.percpu_rwsem.specs.Laws.Phase.{no-alone, held-all, held-some}
 use Rattle.percpu_rwsem.specs.Phases.{held_by}
 use Rattle.percpu_rwsem.specs.PercpuStated.{CountFalls}
+use Rattle.percpu_rwsem.specs.Types.{Held, No, Alone, Moment, Phase, Idle, Added, Back, Reads, Blocks}
 use Rattle.percpu_rwsem.proofs.Stating.{count-left}
 use mathlib.Core.Option.{some}
 

@@ -9,10 +9,6 @@ use Rattle.atomic_table.proofs.Lists.{at_map}
 use Rattle.word_bits.specs.declared.TheConstants.{MAX_TASKS}
 use Rattle.word_bits.specs.Objects.{Obj}
 use Rattle.word_bits.specs.Histories.{Plan}
-use Rattle.lock_core.specs.declared.view.Hand.{Hand}
-use Rattle.lock_core.specs.declared.view.Held.TheVariants.{No, Shared}
-use Rattle.lock_core.specs.declared.view.Marks.{Marks}
-use Rattle.lock_core.specs.declared.view.Moment.{Moment}
 use Rattle.lock_core.specs.Layout.{site}
 use Rattle.lock_core.specs.Laws.Locked.{move-steps}
 use Rattle.lock_core.specs.Locked.{IsGone, IsSiteStep, SamePass}
@@ -23,13 +19,12 @@ use Rattle.lock_core.specs.Views.{hand_of, is_number}
 use Rattle.lock_core.proofs.HandLaws.{is_number-here}
 use Rattle.lock_core.proofs.RowLaws.{none-some, same-some}
 use Rattle.lock_core.proofs.Stating.{kept-states}
-use Rattle.percpu_rwsem.specs.declared.view.Phase.{Phase}
-use Rattle.percpu_rwsem.specs.declared.view.Phase.TheVariants.{Idle, Added, Back, Reads, Blocks}
 use Rattle.percpu_rwsem.specs.PhaseSteps.{PhaseGoes, Words}
 use Rattle.percpu_rwsem.specs.Phases.{PhasePart, PartOk, phase_part, inside_of, code_of, blocks_of, inside_weight, code_weight, blocks_weight, held_by}
 use Rattle.percpu_rwsem.specs.Laws.Phase.{held-all, held-some, no-alone, no-shared, shared-alone, shared-reads, alone-blocks, blocks-codes, only-code, some-of, inside-named}
 use Rattle.percpu_rwsem.specs.PercpuRuled.{V, PercpuKept, PercpuMoves, block_at, count_at, kept_phase, never, words_in}
 use Rattle.percpu_rwsem.specs.PercpuStated.{phase_in, seen_in, IsInside, IsBlocking, IsPassAt, CountStates, empty, full, BlockStates, free, taken, IsPercpuSite, IsPercpuStep, phase_marks}
+use Rattle.percpu_rwsem.specs.Types.{Hand, No, Shared, Marks, Moment, Phase, Idle, Added, Back, Reads, Blocks}
 use Rattle.percpu_rwsem.proofs.Stepping.{count-bit, part-ok}
 
 abbrev marks : V → Marks

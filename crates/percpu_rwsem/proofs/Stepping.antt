@@ -12,12 +12,6 @@ use Rattle.word_bits.specs.OwnerWord.{task_code}
 use Rattle.word_bits.specs.Objects.{Obj}
 use Rattle.word_bits.specs.Histories.{Plan}
 use Rattle.lock_core.specs.declared.layout.TheConstants.{LOCK_WORDS}
-use Rattle.lock_core.specs.declared.op.Op.{Op}
-use Rattle.lock_core.specs.declared.op.Op.TheVariants.{Load, Store, Add, Sub, Exchange}
-use Rattle.lock_core.specs.declared.view.Hand.{Hand}
-use Rattle.lock_core.specs.declared.view.Held.{Held}
-use Rattle.lock_core.specs.declared.view.Held.TheVariants.{No, Shared, Alone}
-use Rattle.lock_core.specs.declared.view.Stage.TheVariants.{Rest}
 use Rattle.lock_core.specs.Layout.{site}
 use Rattle.lock_core.specs.Ops.{word_after}
 use Rattle.lock_core.specs.Views.{hand_of, held_of, alone_of, named_of, is_number, ticked, took, held_weight, alone_weight}
@@ -30,13 +24,12 @@ use Rattle.lock_core.specs.Laws.Move.{hand-stays, saw-stays}
 use Rattle.lock_core.proofs.HandLaws.{is_number-here, is_number-else}
 use Rattle.lock_core.proofs.RowLaws.{none-some}
 use Rattle.lock_core.proofs.HoldSteps.{none-alone, quiet-state, site-takes, site-frees}
-use Rattle.percpu_rwsem.specs.declared.view.Phase.{Phase}
-use Rattle.percpu_rwsem.specs.declared.view.Phase.TheVariants.{Idle, Added, Back, Reads, Blocks}
 use Rattle.percpu_rwsem.specs.Phases.{PhasePart, PartOk, part, phase_part, inside_of, code_of, blocks_of, inside_weight, code_weight, blocks_weight}
 use Rattle.percpu_rwsem.specs.PhaseSteps.{BlockGoes, CountGoes, PhaseGoes}
 use Rattle.percpu_rwsem.specs.Laws.Phase.{no-shared, no-alone, held-all, held-some, shared-reads, alone-blocks, blocks-codes, only-code, some-of, inside-named, phases-step}
 use Rattle.percpu_rwsem.specs.PercpuRuled.{V, PercpuKept, PercpuMoves, Phases, block_at, count_at, never, words_in}
 use Rattle.percpu_rwsem.specs.Laws.PercpuRuled.{phase-stays, rule-goes, rule-puts}
+use Rattle.percpu_rwsem.specs.Types.{Op, Load, Store, Add, Sub, Exchange, Hand, Held, No, Shared, Alone, Rest, Phase, Idle, Added, Back, Reads, Blocks}
 use Rattle.percpu_rwsem.specs.PercpuPlays as play
 
 -- a live view's plan is the table's

@@ -1,3 +1,4 @@
+pub mod Types
 pub mod Phases
 pub mod PhaseSteps
 pub mod PercpuRuled

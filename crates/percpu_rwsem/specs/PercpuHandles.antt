@@ -4,22 +4,16 @@ use Rattle.cpu_task.specs.CpuCounting.{slept}
 use Rattle.word_bits.specs.LockWords.{Unavailable}
 use Rattle.word_bits.specs.Objects.{Obj}
 use Rattle.word_bits.specs.Histories.{Plan}
-use Rattle.lock_core.specs.declared.view.Hand.{Hand}
-use Rattle.lock_core.specs.declared.view.Held.{Held}
-use Rattle.lock_core.specs.declared.view.Held.TheVariants.{No, Shared, Alone}
-use Rattle.lock_core.specs.declared.view.Moment.{Moment}
-use Rattle.lock_core.specs.declared.view.Past.{Past}
 use Rattle.lock_core.specs.SiteHandles as inner
 use Rattle.lock_core.specs.Pasts.{FoundAtStep, GoesOn, IsOwnStep}
 use Rattle.lock_core.specs.Shown as callers
 use Rattle.lock_core.specs.Shown.{Shown, no_line, shown}
 use Rattle.percpu_rwsem.specs.declared.pass.PercpuPass.{PercpuPass}
 use Rattle.percpu_rwsem.specs.declared.site.PercpuRwSem.{PercpuRwSem}
-use Rattle.percpu_rwsem.specs.declared.view.Phase.{Phase}
-use Rattle.percpu_rwsem.specs.declared.view.Phase.TheVariants.{Idle, Reads, Blocks}
 use Rattle.percpu_rwsem.specs.PercpuPlays.{TakesPhase}
 use Rattle.percpu_rwsem.specs.PercpuRuled.{V, count_at}
 use Rattle.percpu_rwsem.specs.Phases.{PartOk, phase_part}
+use Rattle.percpu_rwsem.specs.Types.{Hand, Held, No, Shared, Alone, Moment, Past, Phase, Idle, Reads, Blocks}
 
 -- the phase of a pass that has seen so many counts zero, or doesn't block, and holds so
 abbrev pub phase_by : Option ℕ → Held → Phase

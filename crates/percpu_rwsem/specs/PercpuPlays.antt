@@ -1,18 +1,13 @@
 -- What a step on the words of a per-CPU semaphore tells its pass.
 use Rattle.std.specs.Prelude.{◌≡◌, ◌≢◌, ℕ, ◌+◌, ◌<◌, List, length, Option, Some}
 use Rattle.atomic_table.specs.Table.{Step}
-use Rattle.word_bits.specs.declared.entry.Entry.{Entry}
 use Rattle.word_bits.specs.Objects.{Obj}
 use Rattle.word_bits.specs.Histories.{Plan}
-use Rattle.lock_core.specs.declared.view.Hand.{Hand}
-use Rattle.lock_core.specs.declared.view.Held.{Held}
-use Rattle.lock_core.specs.declared.view.Held.TheVariants.{No, Shared, Alone}
 use Rattle.lock_core.specs.Holding.{Learns, released}
 use Rattle.lock_core.specs.SitePlays.{Sat, Turns}
 use Rattle.lock_core.specs.Views.{ticked, took}
-use Rattle.percpu_rwsem.specs.declared.view.Phase.{Phase}
-use Rattle.percpu_rwsem.specs.declared.view.Phase.TheVariants.{Idle, Back, Reads, Blocks}
 use Rattle.percpu_rwsem.specs.PercpuRuled.{V}
+use Rattle.percpu_rwsem.specs.Types.{Entry, Hand, Held, No, Shared, Alone, Phase, Idle, Back, Reads, Blocks}
 
 -- a step on a word of the semaphore
 abbrev pub phased : V → Hand → Phase → V

@@ -5,18 +5,15 @@ use lib.ListN.{get_elem?}
 use Rattle.word_bits.specs.LockWords.{Unavailable}
 use Rattle.word_bits.specs.Objects.{Obj}
 use Rattle.word_bits.specs.Histories.{Plan}
-use Rattle.lock_core.specs.declared.view.View.{View}
-use Rattle.lock_core.specs.declared.view.Moment.{Moment}
 use Rattle.lock_core.specs.declared.layout.TheConstants.{SPIN_ROOM}
 use Rattle.lock_core.specs.Layout.{site, width}
 use Rattle.lock_core.specs.Views.{hand_of}
 use Rattle.lock_core.specs.Sites.{SiteKept}
 use Rattle.lock_core.specs.Moves.{SiteMove}
 use Rattle.lock_core.specs.Pasts.{opening}
-use Rattle.percpu_rwsem.specs.declared.view.Phase.{Phase}
-use Rattle.percpu_rwsem.specs.declared.view.Phase.TheVariants.{Idle, Added, Back, Reads, Blocks}
 use Rattle.percpu_rwsem.specs.Phases.{PhasePart, PhasesKept, phase_part}
 use Rattle.percpu_rwsem.specs.PhaseSteps.{PhaseGoes, Words}
+use Rattle.percpu_rwsem.specs.Types.{View, Moment, Phase, Idle, Added, Back, Reads, Blocks}
 
 -- the place of the block word, behind the room of the spin locks, and that of a task's count, which has a line of its own
 abbrev pub block_at : ℕ

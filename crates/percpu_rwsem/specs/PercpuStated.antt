@@ -4,19 +4,14 @@ use mathlib.Core.Option.{some}
 use lib.ListN.{get_elem?}
 use Rattle.word_bits.specs.Objects.{Obj}
 use Rattle.word_bits.specs.Histories.{Plan}
-use Rattle.lock_core.specs.declared.view.Hand.{Hand}
-use Rattle.lock_core.specs.declared.view.Held.TheVariants.{No, Shared, Alone}
-use Rattle.lock_core.specs.declared.view.Marks.{Marks}
-use Rattle.lock_core.specs.declared.view.Moment.{Moment}
 use Rattle.lock_core.specs.Layout.{site}
 use Rattle.lock_core.specs.Locked.{IsSiteStep}
 use Rattle.lock_core.specs.Pasts.{FoundAtStep}
 use Rattle.lock_core.specs.SiteStated.{IsSite}
-use Rattle.percpu_rwsem.specs.declared.view.Phase.{Phase}
-use Rattle.percpu_rwsem.specs.declared.view.Phase.TheVariants.{Idle}
 use Rattle.percpu_rwsem.specs.Phases.{held_by}
 use Rattle.percpu_rwsem.specs.PhaseSteps.{PhaseGoes}
 use Rattle.percpu_rwsem.specs.PercpuRuled.{block_at, count_at, kept_phase, never, words_in}
+use Rattle.percpu_rwsem.specs.Types.{Hand, No, Shared, Alone, Marks, Moment, Phase, Idle}
 
 -- what a moment keeps of a pass: nothing, that it has added and is to look, that it is to take back, that it holds shared, or that it blocks
 abbrev pub phase_in : Marks → ℕ

@@ -1,8 +1,7 @@
 -- How a step of a pass changes its phase, and the words of the semaphore with it.
 use Rattle.std.specs.Prelude.{◌≡◌, ◌≢◌, ◌⊎◌, ℕ, ◌+◌, ◌<◌, Option, Some}
 use Rattle.word_bits.specs.declared.TheConstants.{MAX_TASKS}
-use Rattle.percpu_rwsem.specs.declared.view.Phase.{Phase}
-use Rattle.percpu_rwsem.specs.declared.view.Phase.TheVariants.{Idle, Added, Back, Reads, Blocks}
+use Rattle.percpu_rwsem.specs.Types.{Phase, Idle, Added, Back, Reads, Blocks}
 
 -- the words of a semaphore: the block word, and the count of each task
 pub record Words : Type 0 where

@@ -1,12 +1,11 @@
 //! The calls of a reader.
 ghost use Rattle.std.specs.Prelude.{◌≡◌, ◌<◌, ◌+◌, false, Some, IsSome, IfOk, IfErr};
-ghost use Rattle.lock_core.specs.declared.view.Held.TheVariants.{No, Shared};
 ghost use Rattle.lock_core.specs.Holding.{released};
 ghost use Rattle.lock_core.specs.Pasts.{FoundAt};
-ghost use Rattle.percpu_rwsem.specs.declared.view.Phase.TheVariants.{Idle, Reads};
 ghost use Rattle.percpu_rwsem.specs.PercpuPlays.{NamesOther};
 ghost use Rattle.percpu_rwsem.specs.PercpuRuled.{block_at};
 ghost use Rattle.percpu_rwsem.specs.PercpuStated.{CountFalls};
+ghost use Rattle.percpu_rwsem.specs.Types.{No, Shared, Idle, Reads};
 
 use crate::pass::PercpuPass;
 use crate::site::PercpuRwSem;

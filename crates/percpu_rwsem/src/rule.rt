@@ -1,7 +1,7 @@
 //! The rule of a table with a count for each task and a block word.
-ghost use Rattle.percpu_rwsem.specs.declared.view.Phase.TheVariants.{Idle};
 ghost use Rattle.percpu_rwsem.specs.PercpuRuled.{PercpuKept, PercpuMoves, block_at, kept_phase, never};
 ghost use Rattle.percpu_rwsem.specs.Laws.PercpuRuled.{joins-moves, rule-site, rule-sites, rule-sites-moves, rule-opens, rule-splits, rule-joins, splits-moves};
+ghost use Rattle.percpu_rwsem.specs.Types.{Idle};
 ghost use Rattle.std.specs.Prelude.{◌≡◌, false};
 
 use crate::view::Phase;

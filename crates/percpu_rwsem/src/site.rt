@@ -6,8 +6,8 @@ ghost use Rattle.lock_core.specs.Pasts.{EachMoment, IsMarked, KeepsJoined, Paced
 ghost use Rattle.lock_core.specs.SiteStated.{IsNew};
 ghost use Rattle.lock_core.specs.Linear.{IsLinearizable};
 ghost use Rattle.percpu_rwsem.specs.PercpuStated.{IsPercpuSiteThen, IsPercpuStep};
-ghost use Rattle.percpu_rwsem.specs.declared.view.Phase.TheVariants.{Idle};
 ghost use Rattle.percpu_rwsem.specs.PercpuRuled.{kept_phase, never, newest};
+ghost use Rattle.percpu_rwsem.specs.Types.{Idle};
 
 use crate::pass::PercpuPass;
 use crate::rule::PercpuRule;

@@ -1,13 +1,12 @@
 //! The single steps on the words of a per-CPU semaphore.
 ghost use Rattle.std.specs.Prelude.{◌≡◌, ◌≢◌, ℕ, ◌+◌, ◌<◌, false, length, Some, IfOk, IfErr};
-ghost use Rattle.lock_core.specs.declared.view.Held.TheVariants.{No, Shared, Alone};
 ghost use Rattle.lock_core.specs.Holding.{released};
 ghost use Rattle.lock_core.specs.Pasts.{FoundAt};
 ghost use Rattle.lock_core.specs.Views.{ticked};
 ghost use Rattle.lock_core.specs.SiteHandles.{plan_of, view_of, hand_in, past_of, task_in, held_in, SitsAt, StepsAt, SaysSame};
-ghost use Rattle.percpu_rwsem.specs.declared.view.Phase.TheVariants.{Idle, Added, Back, Reads, Blocks};
 ghost use Rattle.percpu_rwsem.specs.PercpuPlays.{NamesOther, NamesTask, TakesPhase, phased, unheld, Goes, Looked, Ended, Seen, Blocked, Drained, Unblocked};
 ghost use Rattle.percpu_rwsem.specs.PercpuRuled.{block_at, count_at};
+ghost use Rattle.percpu_rwsem.specs.Types.{No, Shared, Alone, Idle, Added, Back, Reads, Blocks};
 
 use crate::rule::{BLOCK, COUNTS, PercpuRule};
 use crate::view::Phase;

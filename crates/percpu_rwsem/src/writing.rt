@@ -1,11 +1,10 @@
 //! The calls of a writer.
 ghost use Rattle.std.specs.Prelude.{◌≡◌, ◌≢◌, ◌<◌, ◌+◌, ℕ, false, true, None, Some, IsSome, IfOk, IfErr, length};
-ghost use Rattle.lock_core.specs.declared.view.Held.TheVariants.{No, Alone};
 ghost use Rattle.lock_core.specs.Views.{first, ticked};
 ghost use Rattle.lock_core.specs.Pasts.{FoundAt};
-ghost use Rattle.percpu_rwsem.specs.declared.view.Phase.TheVariants.{Idle, Blocks};
 ghost use Rattle.percpu_rwsem.specs.PercpuPlays.{NamesOther, unheld};
 ghost use Rattle.percpu_rwsem.specs.PercpuRuled.{block_at, count_at};
+ghost use Rattle.percpu_rwsem.specs.Types.{No, Alone, Idle, Blocks};
 
 use crate::pass::PercpuPass;
 use crate::site::PercpuRwSem;

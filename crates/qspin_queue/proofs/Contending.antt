@@ -1,14 +1,6 @@
 -- The lock as a whole: its first step, the notes before and after, and what lies between.
 use Rattle.std.proofs.Common.{◌≡◌, ◌≢◌, ℕ, suc, ◌+◌, ◌<◌, ◌≤◌, inl, inr, ⊎_elim, Bool, true, false, List, [], ◌∷◌, refl, sym, ap, ◌∙◌, subst, arith, ne_eqb, if◌then◌else◌}
 use Rattle.std.proofs.lemmas.List.{get_or-replicate}
-use Rattle.lock_core.specs.declared.pass.Pass.{Pass}
-use Rattle.lock_core.specs.declared.pass.Nesting.{Nesting}
-use Rattle.lock_core.specs.declared.site.Site.{Site}
-use Rattle.lock_core.specs.declared.view.View.{View}
-use Rattle.lock_core.specs.declared.view.LockHand.{LockHand}
-use Rattle.lock_core.specs.declared.view.SpinHand.{SpinHand}
-use Rattle.lock_core.specs.declared.view.Moment.{Moment}
-use Rattle.lock_core.specs.declared.view.Point.TheVariants.{Out, Cleared, Trying, Ready, Holding}
 use Rattle.lock_core.specs.Records.{bit}
 use Rattle.lock_core.specs.Totals.{total}
 use Rattle.lock_core.specs.SpinFrames.{uses, ready_at}
@@ -21,6 +13,7 @@ use Rattle.qspin_word.specs.SpinWordHands.{saw_word, took_at, tried}
 use Rattle.qspin_word.specs.Ways.{LockGained, SpinGained, RivalSince, SawAtStep, PendedAtStep}
 use Rattle.qspin_word.specs.SpinWordHandles.{spin_in, lock_hand_of, SpinSteps, IsSameBut, KeepsFlagsBeside, KeepsNodes, OwnsPendingAt, FindsRivalSince}
 use Rattle.qspin_queue.specs.SpinQueueHandles.{TakesInTurn, QueuesBehind}
+use Rattle.qspin_queue.specs.Types.{Pass, Nesting, Site, View, LockHand, SpinHand, Moment, Out, Cleared, Trying, Ready, Holding}
 use Rattle.qspin_word.proofs.Owning.{owns-within}
 use Rattle.qspin_word.proofs.Rivals.{saw-at-step, saw-since, saw-then}
 use Rattle.qspin_word.proofs.Idling.{alike-same, alike-then}

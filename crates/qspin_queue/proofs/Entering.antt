@@ -2,15 +2,6 @@
 use Rattle.std.proofs.Common.{◌≡◌, ◌≢◌, ℕ, ◌+◌, ◌==◌, ◌⊎◌, ⊎_elim, Bool, true, false, Option, refl, sym, ap, ◌∙◌, subst, arith, eq-eqb, ne_eqb, if◌then◌else◌}
 use mathlib.Core.Logic.{dite}
 use native.Mathlib.Decide.{ℕ_discrete}
-use Rattle.lock_core.specs.declared.pass.Pass.{Pass}
-use Rattle.lock_core.specs.declared.site.Site.{Site}
-use Rattle.lock_core.specs.declared.pass.Nesting.{Nesting}
-use Rattle.lock_core.specs.declared.view.View.{View}
-use Rattle.lock_core.specs.declared.view.LockHand.{LockHand}
-use Rattle.lock_core.specs.declared.view.Frame.{Frame}
-use Rattle.lock_core.specs.declared.view.SpinHand.{SpinHand}
-use Rattle.lock_core.specs.declared.view.Point.{Point}
-use Rattle.lock_core.specs.declared.view.Point.TheVariants.{Out, Taking, Trying, Clearing, Cleared, Holding}
 use Rattle.lock_core.specs.SpinFrames.{uses}
 use Rattle.lock_core.specs.Records.{bit}
 use Rattle.lock_core.specs.Spins.{node_code, spun}
@@ -22,6 +13,7 @@ use Rattle.qspin_word.specs.Ways.{lock_hand_to, AreAlike}
 use Rattle.qspin_word.specs.SpinWordHandles.{spin_in, lock_hand_of, point_in, SpinSteps, SpinWaits, SpinIdles, KeepsNodes}
 use Rattle.qspin_queue.specs.SpinQueueHandles.{IsNextNode, HasTop, SpinTakes, EntersNode}
 use Rattle.qspin_queue.specs.SpinQueueHands.{lock_hand_with, node_at, code_for, cleared_locked, cleared_next}
+use Rattle.qspin_queue.specs.Types.{Pass, Site, Nesting, View, LockHand, Frame, SpinHand, Point, Out, Taking, Trying, Clearing, Cleared, Holding}
 use Rattle.qspin_word.proofs.OwnNodes.{same-depth}
 use Rattle.qspin_word.proofs.Noting.{noted-is, flags-eq, flags-beside, beside-then, others-told, others-on, told-noted, told-points}
 use Rattle.qspin_word.proofs.Idling.{alike-same, alike-then}

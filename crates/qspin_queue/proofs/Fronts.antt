@@ -6,9 +6,7 @@ use native.Mathlib.Decide.{ℕ_discrete}
 use lib.ListN.{get_elem?}
 use Rattle.lock_core.specs.ViewParts.{Each}
 use Rattle.lock_core.specs.Totals.{total, total-two}
-use Rattle.lock_core.specs.declared.view.Frame.{Frame}
-use Rattle.lock_core.specs.declared.view.Point.{Point}
-use Rattle.lock_core.specs.declared.view.Point.TheVariants.{Ready}
+use Rattle.qspin_queue.specs.Types.{Frame, Point, Ready}
 use Rattle.lock_core.specs.SpinFrames.{when, uses, code_is, uses_as, ready_at, ready_of}
 use Rattle.lock_core.specs.SpinQueues.{PointOk, FrameOk}
 use Rattle.qspin_word.proofs.Codes.{code_is-same, some_summand}

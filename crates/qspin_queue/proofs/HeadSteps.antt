@@ -1,10 +1,5 @@
 -- Becoming the head, and handing the head on.
 use Rattle.std.proofs.Common.{◌≡◌, ℕ, ◌+◌, ◌<◌, true, sym, ap, ◌∙◌, arith}
-use Rattle.lock_core.specs.declared.pass.Pass.{Pass}
-use Rattle.lock_core.specs.declared.site.Site.{Site}
-use Rattle.lock_core.specs.declared.view.View.{View}
-use Rattle.lock_core.specs.declared.view.LockHand.{LockHand}
-use Rattle.lock_core.specs.declared.view.Point.TheVariants.{Linking, Waiting, Head, Ready, Passing, Holding}
 use Rattle.lock_core.specs.SpinFrames.{uses}
 use Rattle.lock_core.specs.LockHands.{frame_at, depth_of}
 use Rattle.lock_core.specs.SiteHandles.{view_of, IsDepthTold, IsNestTold, NotesLock}
@@ -14,6 +9,7 @@ use Rattle.qspin_word.specs.Ways.{lock_hand_to}
 use Rattle.qspin_word.specs.SpinWordHandles.{spin_in, lock_hand_of, point_in, SpinSteps, SpinWaits, SpinIdles, KeepsNodes}
 use Rattle.qspin_queue.specs.SpinQueueHandles.{HasTop, SpinTakes, LeavesNode}
 use Rattle.qspin_queue.specs.SpinQueueHands.{lock_hand_with, as_head, learning, learnt}
+use Rattle.qspin_queue.specs.Types.{Pass, Site, View, LockHand, Linking, Waiting, Head, Ready, Passing, Holding}
 use Rattle.qspin_word.proofs.Passing.{nodes-then}
 use Rattle.qspin_word.proofs.Noting.{flags-eq, flags-beside, others-told, others-on, told-noted}
 use Rattle.qspin_word.proofs.Idling.{idles-lock-hand}

@@ -3,11 +3,11 @@ use Rattle.std.proofs.Common.{◌≡◌, ◌≢◌, ℕ, List, [], ◌∷◌, re
 use mathlib.Core.Option.{some}
 use lib.ListN.{get_elem?}
 use Rattle.atomic_table.proofs.Lists.{at_map}
-use Rattle.lock_core.specs.declared.view.Frame.{Frame}
 use Rattle.lock_core.specs.LockHands.{frame_at}
 use Rattle.lock_core.specs.SpinStated.{OwesLink}
 use Rattle.lock_core.specs.ViewParts.{at_unmap}
 use Rattle.qspin_queue.specs.QueueLaws.{MissingLinksAreOwedOnce, QueueHasHead}
+use Rattle.qspin_queue.specs.Types.{Frame}
 
 some-first : (q : List ℕ) → q ≢ [] → (x : ℕ) × (get_elem? q 0 ≡ some x)
 some-first [] some_it = absurd (some_it refl)

@@ -2,13 +2,7 @@
 use Rattle.std.proofs.Common.{◌≡◌, ◌≢◌, ℕ, sym, ap, ◌∙◌, subst, arith}
 use mathlib.Core.Logic.{dite}
 use native.Mathlib.Decide.{ℕ_discrete}
-use Rattle.lock_core.specs.declared.pass.Pass.{Pass}
-use Rattle.lock_core.specs.declared.site.Site.{Site}
-use Rattle.lock_core.specs.declared.view.View.{View}
-use Rattle.lock_core.specs.declared.view.LockHand.{LockHand}
-use Rattle.lock_core.specs.declared.view.SpinHand.{SpinHand}
-use Rattle.lock_core.specs.declared.pass.Nesting.{Nesting}
-use Rattle.lock_core.specs.declared.view.Point.TheVariants.{Out}
+use Rattle.qspin_queue.specs.Types.{Pass, Site, View, LockHand, SpinHand, Nesting, Out}
 use Rattle.lock_core.specs.LockHands.{lock_hand_at, frame_at, point_at, depth_of, RestsAt, RestsEverywhere, at-with, at-else}
 use Rattle.lock_core.specs.Nestings.{Tells}
 use Rattle.lock_core.specs.SpinFrames.{uses}

@@ -6,10 +6,7 @@ use native.Mathlib.Decide.{ℕ_discrete}
 use lib.ListN.{get_elem?}
 use lib.Seq.{map-set}
 use Rattle.atomic_table.proofs.Lists.{at_map, set_else}
-use Rattle.lock_core.specs.declared.view.LockHand.{LockHand}
-use Rattle.lock_core.specs.declared.view.Frame.{Frame}
-use Rattle.lock_core.specs.declared.view.Point.{Point}
-use Rattle.lock_core.specs.declared.view.SpinHand.{SpinHand}
+use Rattle.qspin_queue.specs.Types.{LockHand, Frame, Point, SpinHand}
 use Rattle.lock_core.specs.ViewParts.{set-there}
 use Rattle.lock_core.specs.Totals.{total, total-set, total-at}
 use Rattle.lock_core.specs.Views.{SpinPart}

@@ -7,8 +7,7 @@ use lib.ListN.{get_elem?}
 use Rattle.atomic_table.proofs.Lists.{at_longer, at_last, at_snoc}
 use Rattle.lock_core.specs.ViewParts.{each-set}
 use Rattle.lock_core.specs.Totals.{total, total-set, total-same, total-snoc, total-at}
-use Rattle.lock_core.specs.declared.view.Frame.{Frame}
-use Rattle.lock_core.specs.declared.view.Point.TheVariants.{Out, Clearing, Cleared, Linking, Waiting, Head, Ready, Passing, Holding}
+use Rattle.qspin_queue.specs.Types.{Frame, Out, Clearing, Cleared, Linking, Waiting, Head, Ready, Passing, Holding}
 use Rattle.lock_core.specs.SpinFrames.{counts, when, code_is, stands, uses, stands_as, uses_as}
 use Rattle.lock_core.specs.SpinQueues.{tail_of, tail_unit, Before, Queued, Linked, StandsAtHead, PointOk, FrameOk, LockKept, Put}
 use Rattle.qspin_word.proofs.Codes.{code_is-same, code_is-else, one_place, one_behind, tail-snoc, tail-in, no_tail, past_end, alone, some_first}

@@ -6,13 +6,6 @@ use mathlib.Core.Logic.{dite}
 use native.Mathlib.Decide.{ℕ_discrete}
 use lib.ListN.{get_elem?}
 use Rattle.lock_core.specs.declared.layout.TheConstants.{SPIN_WORDS}
-use Rattle.lock_core.specs.declared.op.Op.TheVariants.{Load, Store, Or, Exchange}
-use Rattle.lock_core.specs.declared.view.View.{View}
-use Rattle.lock_core.specs.declared.view.SpinHand.{SpinHand}
-use Rattle.lock_core.specs.declared.view.LockHand.{LockHand}
-use Rattle.lock_core.specs.declared.view.Frame.{Frame}
-use Rattle.lock_core.specs.declared.view.Point.{Point}
-use Rattle.lock_core.specs.declared.view.Point.TheVariants.{Out, Clearing, Cleared, Linking, Waiting, Head, Ready, Passing, Holding}
 use Rattle.lock_core.specs.Totals.{total, total-at}
 use Rattle.lock_core.specs.Views.{SpinPart, spin_part, part_with}
 use Rattle.lock_core.specs.LockHands.{lock_hand_at, frame_at, point_at, depth_of, with_lock_hand, at-with, at-else}
@@ -23,6 +16,7 @@ use Rattle.qspin_word.specs.Allows.{AreNumbered, SpinAllows}
 use Rattle.qspin_word.specs.SpinWordHands.{at_point, went, framed, taken, took_at}
 use Rattle.qspin_queue.specs.SpinQueueHandles.{IsTop, codes_of}
 use Rattle.qspin_queue.specs.SpinQueueHands.{code_for, node_at, as_head, retried, cleared_locked, cleared_next, queued, linked, heard, learnt, readied, took_last, took_head, passed}
+use Rattle.qspin_queue.specs.Types.{Load, Store, Or, Exchange, View, SpinHand, LockHand, Frame, Point, Out, Clearing, Cleared, Linking, Waiting, Head, Ready, Passing, Holding}
 use Rattle.qspin_word.proofs.Bits.{or_byte}
 use Rattle.qspin_word.proofs.WordSteps as step
 use Rattle.qspin_word.proofs.OwnNodes.{own-node}

@@ -1,12 +1,5 @@
 -- The slow path, step by step.
 use Rattle.std.proofs.Common.{◌≡◌, ◌≢◌, ℕ, ◌+◌, ◌<◌, true, false, refl, sym, ap, ◌∙◌, subst, arith}
-use Rattle.lock_core.specs.declared.pass.Pass.{Pass}
-use Rattle.lock_core.specs.declared.site.Site.{Site}
-use Rattle.lock_core.specs.declared.view.View.{View}
-use Rattle.lock_core.specs.declared.view.LockHand.{LockHand}
-use Rattle.lock_core.specs.declared.view.Frame.{Frame}
-use Rattle.lock_core.specs.declared.view.Point.{Point}
-use Rattle.lock_core.specs.declared.view.Point.TheVariants.{Taking, Ready, Passing, Holding}
 use Rattle.lock_core.specs.Records.{bit}
 use Rattle.lock_core.specs.SpinFrames.{uses}
 use Rattle.lock_core.specs.LockHands.{lock_hand_at, frame_at, depth_of, at-with, at-else, depth-with}
@@ -17,6 +10,7 @@ use Rattle.qspin_word.specs.Ways.{lock_hand_to, AreAlike}
 use Rattle.qspin_word.specs.SpinWordHandles.{spin_in, lock_hand_of, point_in, SpinSteps, SpinWaits, SpinIdles, KeepsNodes}
 use Rattle.qspin_queue.specs.SpinQueueHandles.{HasTop, SpinTakes, LeavesNode}
 use Rattle.qspin_queue.specs.SpinQueueHands.{lock_hand_with}
+use Rattle.qspin_queue.specs.Types.{Pass, Site, View, LockHand, Frame, Point, Taking, Ready, Passing, Holding}
 use Rattle.qspin_word.proofs.OwnNodes.{same-depth}
 use Rattle.qspin_word.proofs.Noting.{flags-eq, flags-then, flags-beside, beside-then, told-on}
 use Rattle.qspin_word.proofs.Idling.{alike-then, alike-same, waits-once, waits-after, waits-then, idles-lock-hand}

@@ -1,8 +1,7 @@
 -- What a run tells of a spin lock, where the rule of its table keeps the lock's own facts.
 use Rattle.std.proofs.Common.{Bool, ◌≡◌, ℕ, List, ◌∷◌, map}
 use Rattle.lock_core.specs.declared.layout.TheConstants.{SPIN_WORDS}
-use Rattle.lock_core.specs.declared.view.Moment.{Moment}
-use Rattle.lock_core.specs.declared.view.View.{View}
+use Rattle.qspin_queue.specs.Types.{Moment, View}
 use Rattle.lock_core.specs.Layout.{SiteWords, part}
 use Rattle.lock_core.specs.Moves.{SiteMoveWhere}
 use Rattle.lock_core.specs.Views.{spin_part}

@@ -4,13 +4,9 @@ use Rattle.std.specs.Prelude.{IfSome}
 use mathlib.Core.Option.{some, some-injective, some-ne-none}
 use lib.ListN.{get_elem?}
 use Rattle.atomic_table.proofs.Lists.{at_map}
-use Rattle.word_bits.specs.declared.spin.Tail.{Tail}
+use Rattle.qspin_queue.specs.Types.{Tail, Frame, Hand, SpinHand, View}
 use Rattle.word_bits.specs.OwnerWord.{bit}
 use Rattle.word_bits.specs.SpinWord.{IsTail, tail_code}
-use Rattle.lock_core.specs.declared.view.Frame.{Frame}
-use Rattle.lock_core.specs.declared.view.Hand.{Hand}
-use Rattle.lock_core.specs.declared.view.SpinHand.{SpinHand}
-use Rattle.lock_core.specs.declared.view.View.{View}
 use Rattle.lock_core.specs.declared.layout.TheConstants.{SPIN_WORDS}
 use Rattle.lock_core.specs.Layout.{part}
 use Rattle.lock_core.specs.Views.{SpinPart, hand_of, spin_of, spin_part}

@@ -4,11 +4,6 @@ use mathlib.Core.Option.{some, some-injective}
 use mathlib.Core.Logic.{dite}
 use native.Mathlib.Decide.{ℕ_discrete}
 use lib.ListN.{get_elem?}
-use Rattle.lock_core.specs.declared.view.SpinHand.{SpinHand}
-use Rattle.lock_core.specs.declared.view.LockHand.{LockHand}
-use Rattle.lock_core.specs.declared.view.Frame.{Frame}
-use Rattle.lock_core.specs.declared.view.Point.{Point}
-use Rattle.lock_core.specs.declared.view.Point.TheVariants.{Linking}
 use Rattle.lock_core.specs.ViewParts.{at_unmap}
 use Rattle.lock_core.specs.Records.{bit}
 use Rattle.lock_core.specs.Totals.{total, total-at}
@@ -22,6 +17,7 @@ use Rattle.qspin_word.specs.Allows.{AreNumbered}
 use Rattle.qspin_word.proofs.Codes.{some_summand, tail-in, total-below}
 use Rattle.qspin_word.proofs.Regions.{codes, put-next, put-locked}
 use Rattle.qspin_queue.specs.SpinQueueHandles.{IsTop, codes_of}
+use Rattle.qspin_queue.specs.Types.{SpinHand, LockHand, Frame, Point, Linking}
 use Rattle.qspin_queue.proofs.Standing.{counted, counts-stands, stands-below, stands-uses, uses-one, relocked, renext}
 
 -- a node that nobody uses at the lock isn't in its queue, and no frame speaks of it

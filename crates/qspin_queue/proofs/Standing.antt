@@ -6,9 +6,7 @@ use native.Mathlib.Decide.{ℕ_discrete}
 use lib.ListN.{get_elem?}
 use Rattle.atomic_table.proofs.Lists.{at_longer}
 use Rattle.lock_core.specs.Totals.{total, total-at}
-use Rattle.lock_core.specs.declared.view.Frame.{Frame}
-use Rattle.lock_core.specs.declared.view.Point.{Point}
-use Rattle.lock_core.specs.declared.view.Point.TheVariants.{Clearing, Cleared, Linking, Waiting, Head, Ready, Passing}
+use Rattle.qspin_queue.specs.Types.{Frame, Point, Clearing, Cleared, Linking, Waiting, Head, Ready, Passing}
 use Rattle.lock_core.specs.SpinFrames.{when, code_is, stands, uses, stands_as, uses_as}
 use Rattle.lock_core.specs.SpinQueues.{Before, Queued, StandsAtHead, PointOk}
 use Rattle.qspin_word.proofs.Codes.{code_is-same, code_is-else, one_place, some_summand, total-below}

@@ -7,9 +7,7 @@ use native.Mathlib.Decide.{ℕ_discrete}
 use lib.ListN.{get_elem?}
 use Rattle.std.specs.Prelude.{reverse}
 use Rattle.std.proofs.lemmas.List.{reverse-reverse}
-use Rattle.lock_core.specs.declared.view.Frame.{Frame}
-use Rattle.lock_core.specs.declared.view.Point.{Point}
-use Rattle.lock_core.specs.declared.view.Point.TheVariants.{Linking, Waiting, Head, Ready, Passing}
+use Rattle.qspin_queue.specs.Types.{Frame, Point, Linking, Waiting, Head, Ready, Passing}
 use Rattle.lock_core.specs.Totals.{total}
 use Rattle.lock_core.specs.SpinFrames.{when, code_is, stands, uses, stands_as, takes_of, pends_of, undoes_of, is_head}
 use Rattle.lock_core.specs.SpinQueues.{tail_of, tail_unit, Before, PointOk, Queued, LockKept}

@@ -2,13 +2,6 @@
 use Rattle.std.proofs.Common.{◌≡◌, ◌≢◌, ℕ, ◌+◌, ◌%◌, ◌<◌, ◌≤◌, Bool, true, false, refl, sym, ap, ◌∙◌, subst, arith, eq-eqb, ne_eqb, ltb, if◌then◌else◌}
 use mathlib.Core.Logic.{dite}
 use native.Mathlib.Decide.{ℕ_discrete}
-use Rattle.lock_core.specs.declared.pass.Pass.{Pass}
-use Rattle.lock_core.specs.declared.site.Site.{Site}
-use Rattle.lock_core.specs.declared.view.View.{View}
-use Rattle.lock_core.specs.declared.view.LockHand.{LockHand}
-use Rattle.lock_core.specs.declared.view.Frame.{Frame}
-use Rattle.lock_core.specs.declared.view.Point.{Point}
-use Rattle.lock_core.specs.declared.view.Point.TheVariants.{Taking, Cleared, Linking, Waiting, Head, Ready, Passing, Holding}
 use Rattle.lock_core.specs.SpinFrames.{uses}
 use Rattle.lock_core.specs.LockHands.{lock_hand_at, frame_at, point_at, depth_of, at-with, at-else}
 use Rattle.lock_core.specs.Spins.{tail_in}
@@ -19,6 +12,7 @@ use Rattle.qspin_word.specs.Ways.{lock_hand_to}
 use Rattle.qspin_word.specs.SpinWordHandles.{spin_in, lock_hand_of, point_in, SpinSteps, SpinWaits, SpinIdles, KeepsNodes}
 use Rattle.qspin_queue.specs.SpinQueueHandles.{SpinTakes, LeavesNode}
 use Rattle.qspin_queue.specs.SpinQueueHands.{lock_hand_with, as_head, entered, queued, heard, learnt, readied, retried, took_last}
+use Rattle.qspin_queue.specs.Types.{Pass, Site, View, LockHand, Frame, Point, Taking, Cleared, Linking, Waiting, Head, Ready, Passing, Holding}
 use Rattle.qspin_word.proofs.Noting.{flags-eq, told-points}
 use Rattle.qspin_word.proofs.Idling.{alike-same, idles-then, idles-look}
 use Rattle.qspin_word.proofs.Passing.{steps-as}

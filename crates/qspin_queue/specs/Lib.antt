@@ -1,3 +1,4 @@
+pub mod Types
 pub mod SpinQueueHands
 pub mod SpinQueueHandles
 pub mod QueueLaws

@@ -1,8 +1,6 @@
 -- What a clause reads of a pass in the queue of a spin lock.
 use Rattle.std.specs.Prelude.{◌≡◌, ◌≢◌, ℕ, ◌+◌, ◌*◌, ◌<◌, ◌≤◌, ◌⊎◌, length, Some, None, IsSome}
-use Rattle.lock_core.specs.declared.pass.Pass.{Pass}
-use Rattle.lock_core.specs.declared.view.Point.TheVariants.{Taking, Trying, Cleared, Ready}
-use Rattle.lock_core.specs.declared.site.Site.{Site}
+use Rattle.qspin_queue.specs.Types.{Pass, Taking, Trying, Cleared, Ready, Site}
 use Rattle.lock_core.specs.Views.{SpinPart, SpinRests, SpinHolds, spin_part}
 use Rattle.lock_core.specs.LockHands.{lock_hand_at, frame_at, depth_of, RestsEverywhere}
 use Rattle.lock_core.specs.Spins.{node_code}

@@ -1,11 +1,6 @@
 -- What each step of the slow path makes of the spin part of a view, by the word that it found. `l` is the lock.
 use Rattle.std.specs.Prelude.{ℕ, ◌+◌, ◌%◌, ◌==◌, Option, Some, None, if◌then◌else◌, nat_lt}
-use Rattle.lock_core.specs.declared.view.View.{View}
-use Rattle.lock_core.specs.declared.view.SpinHand.{SpinHand}
-use Rattle.lock_core.specs.declared.view.LockHand.{LockHand}
-use Rattle.lock_core.specs.declared.view.Frame.{Frame}
-use Rattle.lock_core.specs.declared.view.Point.{Point}
-use Rattle.lock_core.specs.declared.view.Point.TheVariants.{Clearing, Cleared, Linking, Waiting, Head, Ready, Passing, Holding}
+use Rattle.qspin_queue.specs.Types.{View, SpinHand, LockHand, Frame, Point, Clearing, Cleared, Linking, Waiting, Head, Ready, Passing, Holding}
 use Rattle.lock_core.specs.LockHands.{frame_at, depth_of}
 use Rattle.lock_core.specs.Spins.{tail_in, node_code}
 use Rattle.qspin_word.specs.SpinWordHands.{framed, went, took_at}

@@ -1,6 +1,5 @@
 //! The slow path of the queued spin lock.
 ghost use Rattle.std.specs.Prelude.{◌≡◌, ◌≢◌, ◌+◌, ◌%◌, ◌<◌, ◌≤◌, ◌⊎◌, ◌↔◌, true, false, IsSome};
-ghost use Rattle.lock_core.specs.declared.view.Point.TheVariants.{Out, Taking, Trying, Cleared, Linking, Waiting, Head, Ready, Passing};
 ghost use Rattle.lock_core.specs.LockHands.{RestsAt, frame_at, depth_of};
 ghost use Rattle.lock_core.specs.Views.{SpinRests};
 ghost use Rattle.lock_core.specs.Spins.{tail_in, word_at};
@@ -9,6 +8,7 @@ ghost use Rattle.qspin_word.specs.Ways.{lock_hand_to, LockGained, SpinGained};
 ghost use Rattle.qspin_word.specs.SpinWordHandles.{spin_in, point_in, lock_hand_of, IsAtNone, IsSameBut, KeepsFlagsBeside, KeepsNodes, OwnsPendingAt, SpinIdles, SpinWaits};
 ghost use Rattle.qspin_queue.specs.SpinQueueHands.{lock_hand_with, node_at, as_head, learning, entered};
 ghost use Rattle.qspin_queue.specs.SpinQueueHandles.{codes, code_in, found_in, successor_in, IsNextNode, HasTop, SpinTakes, TakesInTurn, QueuesBehind, LeavesNode, EntersNode};
+ghost use Rattle.qspin_queue.specs.Types.{Out, Taking, Trying, Cleared, Linking, Waiting, Head, Ready, Passing};
 
 use crate::steps::{
     clear_locked, clear_next, exchange_last, exchange_tail, link, load_head, load_locked,

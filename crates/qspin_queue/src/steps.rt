@@ -2,7 +2,6 @@
 //! `code` is the code of the pass's node: four times its task's number plus 1, and the node's number.
 ghost use Rattle.std.specs.Prelude.{◌≡◌, ◌≢◌, ◌+◌, ◌*◌, ◌/◌, ◌<◌};
 ghost use Rattle.word_bits.specs.declared.TheConstants.{MAX_TASKS};
-ghost use Rattle.lock_core.specs.declared.view.Point.TheVariants.{Clearing, Cleared, Linking, Waiting, Head, Ready, Passing};
 ghost use Rattle.lock_core.specs.LockHands.{RestsAt};
 ghost use Rattle.lock_core.specs.Spins.{tail_in, word_at, next_at, locked_at};
 ghost use Rattle.lock_core.specs.SiteHandles.{view_of, past_of, SitsAt};
@@ -10,6 +9,7 @@ ghost use Rattle.lock_core.specs.Pasts.{FoundAt};
 ghost use Rattle.qspin_word.specs.SpinWordHandles.{spin_in, point_in, SpinSteps};
 ghost use Rattle.qspin_queue.specs.SpinQueueHands.{retried, cleared_locked, cleared_next, queued, linked, heard, learnt, readied, took_last, took_head, passed};
 ghost use Rattle.qspin_queue.specs.SpinQueueHandles.{codes, codes_of, code_in, found_in, successor_in, IsNextNode, HasTop};
+ghost use Rattle.qspin_queue.specs.Types.{Clearing, Cleared, Linking, Waiting, Head, Ready, Passing};
 
 use lock_core::{Op, Pass, Site, SpinHost};
 use qspin_word::{LOCKED, TAIL, TAILLESS, spin_step, word_step};

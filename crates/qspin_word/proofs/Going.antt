@@ -1,15 +1,9 @@
 -- A pass that made some steps, and then some more.
 use Rattle.std.proofs.Common.{◌≡◌, ◌∙◌, ◌==◌, ◌<◌, ◌+◌, ℕ, eq-eqb, Bool, true, false, refl, sym, ap, subst, if◌then◌else◌}
-use Rattle.lock_core.specs.declared.pass.Pass.{Pass}
-use Rattle.lock_core.specs.declared.site.Site.{Site}
-use Rattle.lock_core.specs.declared.view.SpinHand.{SpinHand}
 use Rattle.lock_core.specs.Pasts.{FoundAt, FoundAtStep}
 use Rattle.lock_core.specs.Laws.SiteRun.{found-at-step}
 use Rattle.lock_core.specs.SiteHandles.{view_of, hand_in, past_of, SaysSame, KeepsPast, IsDepthTold, IsNestTold, NotesLock}
 use Rattle.lock_core.specs.Nestings.{is_held, waits_at}
-use Rattle.lock_core.specs.declared.view.View.{View}
-use Rattle.lock_core.specs.declared.view.LockHand.{LockHand}
-use Rattle.lock_core.specs.declared.view.Point.TheVariants.{Out, Holding}
 use Rattle.lock_core.specs.SpinFrames.{uses}
 use Rattle.lock_core.specs.LockHands.{depth_of, lock_hand_at, point_at, RestsAt, HoldsAt, at-with, at-else}
 use Rattle.qspin_word.specs.SpinWordHands.{taken, took_at, saw_word, tried, looked, freed}
@@ -17,6 +11,7 @@ use Rattle.qspin_word.specs.Ways.{lock_hand_to}
 use Rattle.qspin_word.proofs.OwnNodes.{same-depth}
 use Rattle.qspin_word.proofs.Noting.{flags-eq, flags-beside, others-told, others-on, told-on, told-noted}
 use Rattle.qspin_word.specs.SpinWordHandles.{spin_in, point_in, SpinSteps, SpinGoesOn, FirstFoundFree}
+use Rattle.qspin_word.specs.Types.{Pass, Site, SpinHand, View, LockHand, Out, Holding}
 
 module _ {R O E C : Type 0} (site : Site R O E C) where
   pub stepped : (a b : Pass R O E C) (s : SpinHand) → SpinSteps site a b s → SpinGoesOn site a b

@@ -1,11 +1,5 @@
 -- Calls that are done while another call of the pass waits.
 use Rattle.std.proofs.Common.{◌≡◌, ◌≢◌, ℕ, true, false, IsSome, refl, sym, ap, ◌∙◌, subst, arith}
-use Rattle.lock_core.specs.declared.pass.Pass.{Pass}
-use Rattle.lock_core.specs.declared.pass.Face.{Face}
-use Rattle.lock_core.specs.declared.site.Site.{Site}
-use Rattle.lock_core.specs.declared.view.View.{View}
-use Rattle.lock_core.specs.declared.view.LockHand.{LockHand}
-use Rattle.lock_core.specs.declared.view.SpinHand.{SpinHand}
 use Rattle.lock_core.specs.LockHands.{lock_hand_at, depth_of}
 use Rattle.lock_core.specs.Spins.{spun}
 use Rattle.lock_core.specs.SiteHandles.{view_of, task_in, SitsAt, IsNestTold}
@@ -13,6 +7,7 @@ use Rattle.lock_core.specs.Nestings.{waits_at, pauses_at}
 use Rattle.qspin_word.specs.Ways.{AreAlike, HitLeaves}
 use Rattle.qspin_word.proofs.Noting.{flags-eq, flags-then, flags-beside, beside-then, told-same}
 use Rattle.qspin_word.specs.SpinWordHandles.{spin_in, lock_hand_of, point_in, IsInterruptible, SpinSteps, SpinWaits, SpinIdles}
+use Rattle.qspin_word.specs.Types.{Pass, Face, Site, View, LockHand, SpinHand}
 
 pub alike-self : (b : LockHand) → AreAlike b b
 alike-self b = record { point = refl; stays = λ _. refl }

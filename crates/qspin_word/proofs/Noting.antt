@@ -2,17 +2,13 @@
 use Rattle.std.proofs.Common.{◌≡◌, ◌≢◌, ℕ, ◌<◌, Bool, sym, ap, ◌∙◌, subst}
 use mathlib.Core.Logic.{dite}
 use native.Mathlib.Decide.{ℕ_discrete}
-use Rattle.lock_core.specs.declared.pass.Pass.{Pass}
-use Rattle.lock_core.specs.declared.pass.Nesting.{Nesting}
-use Rattle.lock_core.specs.declared.view.SpinHand.{SpinHand}
 use Rattle.lock_core.specs.LockHands.{frame_at, point_at, depth_of, RestsAt}
 use Rattle.lock_core.specs.Nestings.{is_held, waits_at, notes_held, notes_wait, SameFlags, SameFlagsBeside, TellsAt, Tells}
-use Rattle.lock_core.specs.declared.site.Site.{Site}
-use Rattle.lock_core.specs.declared.view.LockHand.{LockHand}
 use Rattle.lock_core.specs.SiteHandles.{view_of, KeepsPast, NotesLock, IsDepthTold, IsNestTold, past_of}
 use Rattle.qspin_word.specs.Ways.{LockRefused}
 use Rattle.lock_core.specs.Pasts.{GoesOn}
 use Rattle.qspin_word.specs.SpinWordHandles.{spin_in, point_in, lock_hand_of, IsSameBut, SpinWaits, KeepsNodes}
+use Rattle.qspin_word.specs.Types.{Pass, Nesting, SpinHand, Site, LockHand}
 
 pub flags-eq : (n n' : Nesting) → n' ≡ n → SameFlags n n'
 flags-eq n n' e m few = (ap (notes_held m) e, ap (notes_wait m) e)

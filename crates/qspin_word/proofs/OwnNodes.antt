@@ -2,8 +2,7 @@
 use Rattle.std.proofs.Common.{◌≡◌, ℕ, ◌≤◌, true, false, sym, ap, ◌∙◌, subst, arith}
 use mathlib.Core.Logic.{dite}
 use native.Mathlib.Decide.{ℕ_discrete}
-use Rattle.lock_core.specs.declared.view.SpinHand.{SpinHand}
-use Rattle.lock_core.specs.declared.view.LockHand.{LockHand}
+use Rattle.qspin_word.specs.Types.{SpinHand, LockHand}
 use Rattle.lock_core.specs.Records.{bit}
 use Rattle.lock_core.specs.Views.{SpinPart}
 use Rattle.lock_core.specs.SpinFrames.{uses}

@@ -2,14 +2,11 @@
 use Rattle.std.proofs.Common.{◌≡◌, ℕ, ◌+◌, ◌==◌, ◌<◌, List, sym, ap, ◌∙◌, subst, if◌then◌else◌}
 use mathlib.Core.Option.{some}
 use Rattle.std.proofs.lemmas.Bool.{lt-ltb}
-use Rattle.lock_core.specs.declared.view.View.{View}
-use Rattle.lock_core.specs.declared.view.LockHand.{LockHand}
-use Rattle.lock_core.specs.declared.view.Point.TheVariants.{Undoing, Pending}
-use Rattle.lock_core.specs.declared.view.Moment.{Moment}
 use Rattle.lock_core.specs.Pasts.{FoundAt, GoesOn, IsOwnStep}
 use Rattle.lock_core.specs.LockHands.{lock_hand_at, point_at, at-with}
 use Rattle.lock_core.specs.Spins.{spun, pending_in}
 use Rattle.qspin_word.specs.SpinWordHands.{went, saw_word, pended}
+use Rattle.qspin_word.specs.Types.{View, LockHand, Undoing, Pending, Moment}
 use Rattle.qspin_word.specs.Ways.{PendedAtStep, lock_hand_to}
 
 module _ {E : Type 0} (l at : ℕ) where

@@ -1,14 +1,11 @@
 -- What a fetch-or of the pending bit leaves that saw a tail, or the pending bit of another.
 use Rattle.std.proofs.Common.{◌≡◌, ◌≢◌, ℕ, ◌+◌, ◌/◌, ◌%◌, ◌==◌, ◌≤◌, Bool, true, false, Some, refl, sym, ap, ◌∙◌, arith, eq-eqb, ne_eqb, if◌then◌else◌}
 use Rattle.std.proofs.lemmas.Bool.{le-ltb}
-use Rattle.lock_core.specs.declared.view.View.{View}
-use Rattle.lock_core.specs.declared.view.LockHand.{LockHand}
-use Rattle.lock_core.specs.declared.view.SpinHand.{SpinHand}
-use Rattle.lock_core.specs.declared.view.Point.TheVariants.{Out, Undoing, Pending}
 use Rattle.lock_core.specs.SpinFrames.{uses}
 use Rattle.lock_core.specs.LockHands.{lock_hand_at, point_at, depth_of, at-with, at-else}
 use Rattle.lock_core.specs.Spins.{spun}
 use Rattle.qspin_word.specs.SpinWordHands.{went, saw_word, pended, undone}
+use Rattle.qspin_word.specs.Types.{View, LockHand, SpinHand, Out, Undoing, Pending}
 use Rattle.qspin_word.specs.Ways.{LockRefused, lock_hand_to}
 use Rattle.qspin_word.proofs.OwnNodes.{same-depth}
 

@@ -7,11 +7,7 @@ use lib.ListN.{get_elem?}
 use lib.Seq.{set-get_or}
 use Rattle.word_bits.specs.declared.TheConstants.{MAX_TASKS}
 use Rattle.lock_core.specs.declared.layout.TheConstants.{SPIN_WORDS}
-use Rattle.lock_core.specs.declared.view.SpinHand.{SpinHand}
-use Rattle.lock_core.specs.declared.view.LockHand.{LockHand}
-use Rattle.lock_core.specs.declared.view.Frame.{Frame}
-use Rattle.lock_core.specs.declared.view.Saw.{Saw}
-use Rattle.lock_core.specs.declared.view.Point.{Point}
+use Rattle.qspin_word.specs.Types.{SpinHand, LockHand, Frame, Saw, Point}
 use Rattle.lock_core.specs.ViewParts.{each-set, set_part, keep_part}
 use Rattle.lock_core.specs.Views.{SpinPart}
 use Rattle.lock_core.specs.LockHands.{lock_hand_at, frame_at, point_at, RestsAt}

@@ -1,9 +1,6 @@
 -- A step found a rival in the word.
 use Rattle.std.proofs.Common.{◌≡◌, ℕ, ◌+◌, ◌≤◌, ◌⊎◌, List, Some, Option, sym, subst, arith}
-use Rattle.lock_core.specs.declared.view.View.{View}
-use Rattle.lock_core.specs.declared.view.Saw.{Saw}
-use Rattle.lock_core.specs.declared.view.Moment.{Moment}
-use Rattle.lock_core.specs.declared.view.Point.TheVariants.{Out, Undoing}
+use Rattle.qspin_word.specs.Types.{View, Saw, Moment, Out, Undoing}
 use Rattle.lock_core.specs.LockHands.{point_at}
 use Rattle.lock_core.specs.Pasts.{FoundAt, GoesOn, IsOwnStep}
 use Rattle.lock_core.specs.Laws.SiteRun.{step-by}

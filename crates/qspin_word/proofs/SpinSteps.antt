@@ -7,14 +7,6 @@ use mathlib.Core.Logic.{dite}
 use native.Mathlib.Decide.{ℕ_discrete}
 use lib.ListN.{get_elem?}
 use Rattle.atomic_table.proofs.Lists.{at_map, set_again}
-use Rattle.lock_core.specs.declared.op.Op.TheVariants.{Load, Add, Sub, Or, And, Exchange}
-use Rattle.lock_core.specs.declared.view.View.{View}
-use Rattle.lock_core.specs.declared.view.SpinHand.{SpinHand}
-use Rattle.lock_core.specs.declared.view.LockHand.{LockHand}
-use Rattle.lock_core.specs.declared.view.Frame.{Frame}
-use Rattle.lock_core.specs.declared.view.Saw.{Saw}
-use Rattle.lock_core.specs.declared.view.Point.{Point}
-use Rattle.lock_core.specs.declared.view.Point.TheVariants.{Out, Undoing, Pending, Taking, Trying, Head, Ready, Passing, Holding}
 use Rattle.lock_core.specs.Totals.{total, total-at}
 use Rattle.lock_core.specs.Views.{SpinPart, spin_part, part_with}
 use Rattle.lock_core.specs.LockHands.{lock_hand_at, frame_at, with_lock_hand, RestsAt, RestsEverywhere, at-with, at-else}
@@ -24,6 +16,7 @@ use Rattle.lock_core.specs.Laws.Spin.{lock-of}
 use Rattle.lock_core.specs.Spins.{SpinFacts, SpinGoes, SpinsMove, OwnNodes, LockIn, tail_in, QueueMoves, TakesFrom, ComesTo, LeavesBy, frame_on, word_in, word_at, next_in, locked_in, holds_on}
 use Rattle.qspin_word.specs.Allows.{SpinAllows}
 use Rattle.qspin_word.specs.SpinWordHands.{at_point, framed, went, taken, took_at, saw_word, tried, looked, sought, grabbed, freed, pended, undone, awaited, turned}
+use Rattle.qspin_word.specs.Types.{Load, Add, Sub, Or, And, Exchange, View, SpinHand, LockHand, Frame, Saw, Point, Out, Undoing, Pending, Taking, Trying, Head, Ready, Passing, Holding}
 use Rattle.qspin_word.proofs.Bits.{or_pending, or_pending_again, and_pending}
 use Rattle.qspin_word.proofs.WordSteps as step
 use Rattle.qspin_word.proofs.OwnNodes.{own-word, own-still}

@@ -9,9 +9,6 @@ use Rattle.atomic_table.proofs.Lists.{at_map}
 use Rattle.word_bits.specs.LockWords.{Unavailable}
 use Rattle.word_bits.specs.Objects.{Obj}
 use Rattle.word_bits.specs.Histories.{Plan}
-use Rattle.lock_core.specs.declared.op.Op.{Op}
-use Rattle.lock_core.specs.declared.view.View.{View}
-use Rattle.lock_core.specs.declared.view.SpinHand.{SpinHand}
 use Rattle.lock_core.specs.declared.layout.TheConstants.{SPIN_WORDS}
 use Rattle.lock_core.specs.Ops.{word_after, told_by, first_of, second_of}
 use Rattle.lock_core.specs.Layout.{SiteWords, part}
@@ -23,6 +20,7 @@ use Rattle.lock_core.specs.Spins.{SpinsKept, SpinGoes, SpinsMove, SpinFrees, spu
 use Rattle.lock_core.specs.Moves.{Goes, Lets}
 use Rattle.lock_core.proofs.HandLaws.{is_number-here}
 use Rattle.qspin_word.specs.Allows.{AreNumbered, SpinAllows, SpunBy}
+use Rattle.qspin_word.specs.Types.{Op, View, SpinHand}
 
 at_view : {E : Type 0} (vs : List (View E)) (j : ℕ) (p : SpinPart) → get_elem? (map spin_part vs) j ≡ some p → (v : View E) × (get_elem? vs j ≡ some v) × (spin_part v ≡ p)
 at_view [] j p at = absurd (some-ne-none p (sym at))

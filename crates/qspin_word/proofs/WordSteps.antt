@@ -2,13 +2,11 @@
 use Rattle.std.proofs.Common.{◌≡◌, ℕ, ◌+◌, ◌-◌, ◌/◌, ◌%◌, ◌<◌, ◌≤◌, ◌⊎◌, ⊎_elim, List, length, set, refl, ap, ◌∙◌, arith}
 use mathlib.Core.Option.{some}
 use lib.ListN.{get_elem?}
-use Rattle.lock_core.specs.declared.view.Frame.{Frame}
-use Rattle.lock_core.specs.declared.view.Point.{Point}
-use Rattle.lock_core.specs.declared.view.Point.TheVariants.{Out, Undoing, Pending, Taking, Trying, Cleared, Holding}
 use Rattle.lock_core.specs.SpinQueues.{LockKept}
 use Rattle.qspin_word.proofs.Codes.{no_tail, some_stand}
 use Rattle.lock_core.specs.Laws.Spin.{recount, rekept}
 use Rattle.qspin_word.specs.SpinWordHands.{at_point}
+use Rattle.qspin_word.specs.Types.{Frame, Point, Out, Undoing, Pending, Taking, Trying, Cleared, Holding}
 
 module _ (next locked : ℕ → ℕ) (q : List ℕ) (fs : List Frame) (id : ℕ) (f : Frame) where
   abbrev Kept : ℕ → List Frame → Type 0

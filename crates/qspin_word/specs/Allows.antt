@@ -4,9 +4,7 @@ use mathlib.Core.Option.{some}
 use lib.ListN.{get_elem?}
 use Rattle.word_bits.specs.declared.TheConstants.{MAX_TASKS}
 use Rattle.atomic_table.specs.Table.{Step}
-use Rattle.lock_core.specs.declared.op.Op.{Op}
-use Rattle.lock_core.specs.declared.view.View.{View}
-use Rattle.lock_core.specs.declared.view.SpinHand.{SpinHand}
+use Rattle.qspin_word.specs.Types.{Op, View, SpinHand}
 use Rattle.lock_core.specs.Ops.{word_after, told_by}
 use Rattle.lock_core.specs.Views.{SpinPart, spin_part, part_with}
 use Rattle.lock_core.specs.Spins.{SpinFacts, SpinGoes, SpinsMove, spun}

@@ -1,3 +1,4 @@
+pub mod Types
 pub mod Allows
 pub mod SpinWordHands
 pub mod Ways

@@ -1,17 +1,12 @@
 -- What a clause reads of a pass at a spin lock.
 use Rattle.std.specs.Prelude.{◌≡◌, ◌≢◌, ℕ, ◌+◌, ◌<◌, ◌≤◌, length, IsSome, true}
-use Rattle.lock_core.specs.declared.op.Op.{Op}
-use Rattle.lock_core.specs.declared.view.SpinHand.{SpinHand}
-use Rattle.lock_core.specs.declared.view.LockHand.{LockHand}
-use Rattle.lock_core.specs.declared.view.Point.{Point}
-use Rattle.lock_core.specs.declared.pass.Pass.{Pass}
-use Rattle.lock_core.specs.declared.site.Site.{Site}
 use Rattle.lock_core.specs.LockHands.{lock_hand_at, point_at, RestsEverywhere, depth_of}
 use Rattle.lock_core.specs.Spins.{spun}
 use Rattle.lock_core.specs.Pasts.{FoundAtStep}
 use Rattle.lock_core.specs.SiteHandles.{plan_of, view_of, hand_in, past_of, task_in, SitsAt, SaysSame, KeepsPast, IsLatest, KeepsNest, IsDepthTold, IsNestTold}
 use Rattle.lock_core.specs.Nestings.{pauses_at, SameFlags, SameFlagsBeside}
 use Rattle.qspin_word.specs.Allows.{SpinAllows}
+use Rattle.qspin_word.specs.Types.{Op, SpinHand, LockHand, Point, Pass, Site}
 use Rattle.qspin_word.specs.Ways.{PendedAtStep, RivalSince, AreAlike, HitLeaves}
 
 module _ {R O E C : Type 0} where

@@ -1,11 +1,6 @@
 -- What each step on a spin word makes of the spin part of a view, by the word that it found. `l` is the lock.
 use Rattle.std.specs.Prelude.{ℕ, ◌+◌, ◌==◌, Some, if◌then◌else◌, nat_lt}
-use Rattle.lock_core.specs.declared.view.View.{View}
-use Rattle.lock_core.specs.declared.view.SpinHand.{SpinHand}
-use Rattle.lock_core.specs.declared.view.LockHand.{LockHand}
-use Rattle.lock_core.specs.declared.view.Frame.{Frame}
-use Rattle.lock_core.specs.declared.view.Point.{Point}
-use Rattle.lock_core.specs.declared.view.Point.TheVariants.{Out, Undoing, Pending, Taking, Trying, Holding}
+use Rattle.qspin_word.specs.Types.{View, SpinHand, LockHand, Frame, Point, Out, Undoing, Pending, Taking, Trying, Holding}
 use Rattle.lock_core.specs.LockHands.{lock_hand_at, frame_at, point_at, with_lock_hand}
 use Rattle.lock_core.specs.Spins.{pending_in, byte_in}
 

@@ -2,17 +2,11 @@
 use Rattle.std.specs.Prelude.{◌≡◌, ◌≢◌, ℕ, ◌+◌, ◌<◌, ◌≤◌, ◌⊎◌, List, Option, Some}
 use mathlib.Core.Option.{some}
 use lib.ListN.{get_elem?}
-use Rattle.lock_core.specs.declared.view.View.{View}
-use Rattle.lock_core.specs.declared.view.LockHand.{LockHand}
-use Rattle.lock_core.specs.declared.view.Saw.{Saw}
-use Rattle.lock_core.specs.declared.view.SpinHand.{SpinHand}
-use Rattle.lock_core.specs.declared.view.Point.{Point}
-use Rattle.lock_core.specs.declared.view.Point.TheVariants.{Out, Undoing, Pending, Holding}
-use Rattle.lock_core.specs.declared.view.Moment.{Moment}
 use Rattle.lock_core.specs.Views.{SpinHolds}
 use Rattle.lock_core.specs.LockHands.{lock_hand_at, point_at, RestsAt, HoldsAt, depth_of}
 use Rattle.lock_core.specs.Pasts.{GoesOn, FoundAt, IsStepBy, FoundAtStep}
 use Rattle.qspin_word.specs.SpinWordHands.{at_point, took_at, saw_word}
+use Rattle.qspin_word.specs.Types.{View, LockHand, Saw, SpinHand, Point, Out, Undoing, Pending, Holding, Moment}
 
 -- what a pass has to do with a lock, at another point
 abbrev pub lock_hand_to : Point → LockHand → LockHand

@@ -1,6 +1,5 @@
 //! A step on one of the spin words of any table, which asks for the locks' own facts alone.
 ghost use Rattle.std.specs.Prelude.{◌<◌, ◌+◌, ◌*◌, ℕ, length};
-ghost use Rattle.lock_core.specs.declared.view.SpinHand.{SpinHand};
 ghost use Rattle.lock_core.specs.Stores.{spin_room};
 ghost use Rattle.lock_core.specs.Views.{no_spin};
 ghost use Rattle.lock_core.specs.Spins.{SpinFrees, word_at};
@@ -8,6 +7,7 @@ ghost use Rattle.lock_core.specs.Pasts.{FindsAt};
 ghost use Rattle.lock_core.specs.SiteHandles.{plan_of, view_of, past_of, SitsAt};
 ghost use Rattle.qspin_word.specs.Allows.{SpunBy};
 ghost use Rattle.qspin_word.specs.SpinWordHandles.{spin_in, MaySpin, SpinSteps};
+ghost use Rattle.qspin_word.specs.Types.{SpinHand};
 
 use atomic_table::Play;
 use lock_core::view::View;

@@ -1,6 +1,5 @@
 //! The single steps on the spin word, each at the point of the lock at which a pass may make it.
 ghost use Rattle.std.specs.Prelude.{◌≡◌, ◌<◌, ◌+◌, ◌⊎◌, ◌%◌, IsSome};
-ghost use Rattle.lock_core.specs.declared.view.Point.TheVariants.{Out, Undoing, Pending, Taking, Trying};
 ghost use Rattle.lock_core.specs.LockHands.{RestsAt, HoldsAt};
 ghost use Rattle.lock_core.specs.Spins.{word_at};
 ghost use Rattle.lock_core.specs.Pasts.{FoundAt};
@@ -8,6 +7,7 @@ ghost use Rattle.lock_core.specs.SiteHandles.{view_of, past_of, task_in, SitsAt,
 ghost use Rattle.qspin_word.specs.SpinWordHands.{tried, looked, sought, grabbed, freed, pended, undone, awaited, turned};
 ghost use Rattle.qspin_word.specs.Ways.{lock_hand_to};
 ghost use Rattle.qspin_word.specs.SpinWordHandles.{spin_in, point_in, lock_hand_of, IsAtNone, SpinSteps, SpinWaits, KeepsNodes};
+ghost use Rattle.qspin_word.specs.Types.{Out, Undoing, Pending, Taking, Trying};
 
 use crate::interrupt::Interrupt;
 use crate::moves::word_step;

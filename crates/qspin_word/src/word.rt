@@ -1,6 +1,5 @@
 //! The try and the release of a spin lock, and its way by the pending bit.
 ghost use Rattle.std.specs.Prelude.{◌≡◌, ◌+◌, ◌<◌, ◌≤◌, true, false, IfErr, IfOk, IsSome};
-ghost use Rattle.lock_core.specs.declared.view.Point.TheVariants.{Taking};
 ghost use Rattle.lock_core.specs.Views.{SpinRests, SpinHolds};
 ghost use Rattle.lock_core.specs.LockHands.{RestsAt, HoldsAt};
 ghost use Rattle.lock_core.specs.Spins.{spun, word_at};
@@ -8,6 +7,7 @@ ghost use Rattle.lock_core.specs.Pasts.{FoundAt};
 ghost use Rattle.lock_core.specs.SiteHandles.{view_of, past_of, task_in, SitsAt, StepsAt, SaysSame, IsNestTold, NotesLock};
 ghost use Rattle.qspin_word.specs.SpinWordHands.{freed};
 ghost use Rattle.qspin_word.specs.SpinWordHandles.{spin_in, lock_hand_of, FindsRival, FirstFoundFree, IsSameBut, KeepsFlagsBeside, OwnsPendingAt, TriesOnlyFree, KeepsNodes};
+ghost use Rattle.qspin_word.specs.Types.{Taking};
 ghost use Rattle.qspin_word.specs.Ways.{LockTaken, LockGained, LockRefused, SpinTaken, SpinMissed};
 
 use crate::PENDING;

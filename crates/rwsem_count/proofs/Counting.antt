@@ -10,13 +10,6 @@ use Rattle.atomic_table.proofs.Lists.{at_map, set_again}
 use Rattle.word_bits.specs.LockWords.{Unavailable, IsLawfulCount}
 use Rattle.word_bits.specs.Objects.{Obj}
 use Rattle.word_bits.specs.Histories.{Plan}
-use Rattle.lock_core.specs.declared.op.Op.{Op}
-use Rattle.lock_core.specs.declared.op.Op.TheVariants.{Load, Add, Sub, Exchange}
-use Rattle.lock_core.specs.declared.view.View.{View}
-use Rattle.lock_core.specs.declared.view.Hand.{Hand}
-use Rattle.lock_core.specs.declared.view.Held.{Held}
-use Rattle.lock_core.specs.declared.view.Held.TheVariants.{No, Shared, Alone}
-use Rattle.lock_core.specs.declared.view.Stage.TheVariants.{Rest}
 use Rattle.lock_core.specs.Layout.{SiteWords, site}
 use Rattle.lock_core.specs.Ops.{word_after}
 use Rattle.lock_core.specs.Views.{hand_of, handed, ticked, took, held_of, alone_of, held_weight, alone_weight, strength}
@@ -29,12 +22,11 @@ use Rattle.lock_core.proofs.HandLaws.{no-alone}
 use Rattle.lock_core.proofs.RowLaws.{none-some}
 use Rattle.lock_core.proofs.HoldSteps.{quiet-state, site-takes, site-misses, site-frees, site-downgrades}
 use Rattle.lock_core.proofs.Steps.{chooses}
-use Rattle.rwsem_count.specs.declared.view.Bias.{Bias}
-use Rattle.rwsem_count.specs.declared.view.Bias.TheVariants.{Clear, Transit}
 use Rattle.rwsem_count.specs.Counts.{CountKept, CountMove, CountPart, HandStep, alone_in, shared_in, early_in, late_in, shared_weight, early_weight, late_weight, based, count_part, part}
 use Rattle.rwsem_count.specs.Laws.Count.{count-reads, count-transit, count-backs, count-writes, count-frees-shared, count-frees-alone, count-downgrades}
 use Rattle.rwsem_count.specs.CountWordSteps.{IsReadFree}
 use Rattle.rwsem_count.specs.CountPlays.{SeenBy, Looked, Gets, ReadAdded, ReadTaken, WriteTaken, Leaves}
+use Rattle.rwsem_count.specs.Types.{Op, Load, Add, Sub, Exchange, View, Hand, Held, No, Shared, Alone, Rest, Bias, Clear, Transit}
 
 -- a lawful count lets a reader in exactly where it has no flag, and so it does with one bias more
 pub free-or-shut : (n m : ℕ) {P : Type 0} → IsLawfulCount n → m % 256 ≡ n % 256 → m ≤ n + 256 → (IsReadFree m → n % 8 ≡ 0 → P) → ((IsReadFree m → ⊥) → n % 8 ≢ 0 → P) → P

@@ -2,13 +2,13 @@
 use Rattle.std.proofs.Common.{◌≡◌, ◌≢◌, ◌∙◌, inr, if◌then◌else◌, ◌++◌, ◌↔◌, ℕ, ◌+◌, ◌/◌, ◌%◌, ◌^◌, ◌<◌, Bool, true, false, List, [], ◌∷◌, length, Some, is_some, refl, sym, ap, arith}
 use mathlib.Core.Logic.{dite}
 use native.Mathlib.Decide.{ℕ_discrete}
-use Rattle.word_bits.specs.declared.count.Count.{Count}
 use Rattle.word_bits.specs.declared.TheConstants.{MAX_TASKS}
 use Rattle.word_bits.specs.CountWord.{IsCount, count_word}
 use Rattle.word_bits.specs.OwnerWord.{bit}
 use Rattle.lock_core.proofs.HandLaws.{not-both}
 use Rattle.rwsem_count.specs.CountSemaphores.{Semaphore, States, is_waited}
 use Rattle.rwsem_count.specs.CountWordSteps.{HasFlags, IsLocked}
+use Rattle.rwsem_count.specs.Types.{Count}
 
 bit-less : (b : Bool) → bit b < 2
 bit-less true = omega arith

@@ -2,8 +2,6 @@
 use Rattle.std.proofs.Common.{◌≡◌, ◌≢◌, ℕ, ◌+◌, ◌%◌, ◌≤◌, Bool, true, false, List, refl, sym, subst, arith}
 use Rattle.std.specs.Prelude.{Result, Ok, Err, IfErr}
 use Rattle.word_bits.specs.LockWords.{IsLawfulCount}
-use Rattle.lock_core.specs.declared.view.Moment.{Moment}
-use Rattle.lock_core.specs.declared.view.Held.TheVariants.{No}
 use Rattle.lock_core.specs.Holding.{missed}
 use Rattle.lock_core.specs.Kinds.{semaphore, unavailable}
 use Rattle.lock_core.specs.Locking.{Misses}
@@ -11,10 +9,10 @@ use Rattle.lock_core.specs.Pasts.{GoesOn, FoundAt, IsOwnStep}
 use Rattle.lock_core.specs.Shown.{Shown, no_line, shown}
 use Rattle.lock_core.specs.Views.{handed}
 use Rattle.lock_core.proofs.Showing.{missed-misses}
-use Rattle.rwsem_count.specs.declared.view.Bias.{Bias}
 use Rattle.rwsem_count.specs.CountRuled.{V, count_at, new_bias}
 use Rattle.rwsem_count.specs.CountTries.{FindsShut, IsTransit, MissesCount, MissesSince, at_step}
 use Rattle.rwsem_count.specs.CountWordSteps.{IsReadFree}
+use Rattle.rwsem_count.specs.Types.{Moment, No, Bias}
 use Rattle.rwsem_count.proofs.Counting.{free-or-shut}
 
 abbrev show : V → List Moment → Shown

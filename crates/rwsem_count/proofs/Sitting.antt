@@ -4,13 +4,6 @@ use Rattle.atomic_table.specs.Table.{Me}
 use Rattle.atomic_table.specs.Seated.{TableId}
 use Rattle.word_bits.specs.LockWords.{IsLawfulCount}
 use Rattle.word_bits.specs.Histories.{Plan}
-use Rattle.lock_core.specs.declared.view.View.{View}
-use Rattle.lock_core.specs.declared.view.Seen.{Seen}
-use Rattle.lock_core.specs.declared.view.Hand.{Hand}
-use Rattle.lock_core.specs.declared.view.Saw.{Saw}
-use Rattle.lock_core.specs.declared.view.Held.{Held}
-use Rattle.lock_core.specs.declared.view.Held.TheVariants.{Shared}
-use Rattle.lock_core.specs.declared.pass.Face.{Face}
 use Rattle.lock_core.specs.Holding.{missed, downgraded}
 use Rattle.lock_core.specs.SitePasses.{Sits}
 use Rattle.lock_core.specs.Pasts.{unseen}
@@ -19,8 +12,8 @@ use Rattle.rwsem_count.specs.CountPlays.{SeenBy}
 use Rattle.rwsem_count.proofs.Counting.{free-or-not}
 use Rattle.lock_core.proofs.RowLaws.{same-some}
 use Rattle.lock_core.proofs.HandLaws.{not-both}
-use Rattle.rwsem_count.specs.declared.view.Bias.{Bias}
 use Rattle.rwsem_count.specs.Counts.{based}
+use Rattle.rwsem_count.specs.Types.{View, Seen, Hand, Saw, Held, Shared, Face, Bias}
 
 small-saw : (word step : ℕ) → IsLawfulCount word → (x : Saw) → Some (record { word = word; step = step }) ≡ Some x → x.word < 4194304
 small-saw word step lawful x is = let low = lawful.0 in let high = lawful.1 in let e : word ≡ x.word = ap (λ (y : Saw). y.word) (same-some (record { word = word; step = step }) x is) in omega arith

@@ -1,10 +1,10 @@
 -- A reader's try goes on from word to word.
 use Rattle.std.proofs.Common.{◌≡◌, ℕ, ◌+◌, subst, arith}
 use Rattle.atomic_table.specs.Table.{Me}
-use Rattle.lock_core.specs.declared.view.View.{View}
 use Rattle.rwsem_count.specs.CountWordSteps.{IsReadFree}
 use Rattle.rwsem_count.specs.CountPlays.{SeenBy}
 use Rattle.rwsem_count.specs.CountTries.{SawCount}
+use Rattle.rwsem_count.specs.Types.{View}
 
 module _ {E : Type 0} where
   -- what a step tells of the word that a try saw

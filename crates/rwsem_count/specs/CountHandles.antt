@@ -4,16 +4,13 @@ use Rattle.word_bits.specs.OwnerWord.{bit}
 use Rattle.word_bits.specs.LockWords.{Unavailable}
 use Rattle.word_bits.specs.Objects.{Obj}
 use Rattle.word_bits.specs.Histories.{Plan}
-use Rattle.lock_core.specs.declared.view.Hand.{Hand}
-use Rattle.lock_core.specs.declared.view.Held.{Held}
-use Rattle.lock_core.specs.declared.view.Moment.{Moment}
-use Rattle.lock_core.specs.declared.view.Past.{Past}
 use Rattle.lock_core.specs.SiteHandles as inner
 use Rattle.lock_core.specs.Shown as callers
 use Rattle.lock_core.specs.Shown.{Shown, no_line, shown}
 use Rattle.rwsem_count.specs.declared.pass.CountPass.{CountPass}
 use Rattle.rwsem_count.specs.declared.site.CountSite.{CountSite}
 use Rattle.rwsem_count.specs.CountRuled.{V, IsLight, bias_kind}
+use Rattle.rwsem_count.specs.Types.{Hand, Held, Moment, Past}
 
 module _ {O C : Type 0} where
   -- the calls that the site's tasks make

@@ -1,21 +1,15 @@
 -- What a step on a count tells its pass.
 use Rattle.std.specs.Prelude.{◌≡◌, ◌≢◌, ℕ, ◌+◌, ◌/◌, ◌%◌, ◌≤◌, List, Some}
-use Rattle.word_bits.specs.declared.entry.Entry.{Entry}
 use Rattle.word_bits.specs.LockWords.{IsLawfulCount}
 use Rattle.word_bits.specs.Objects.{Obj}
 use Rattle.word_bits.specs.Histories.{Plan}
 use Rattle.atomic_table.specs.Table.{Step}
-use Rattle.lock_core.specs.declared.view.View.{View}
-use Rattle.lock_core.specs.declared.view.Hand.{Hand}
-use Rattle.lock_core.specs.declared.view.Held.{Held}
-use Rattle.lock_core.specs.declared.view.Held.TheVariants.{Shared, Alone}
 use Rattle.lock_core.specs.SitePlays.{Sat, Turns}
 use Rattle.lock_core.specs.Views.{handed, ticked, took}
 use Rattle.lock_core.specs.Holding.{Learns, missed}
-use Rattle.rwsem_count.specs.declared.view.Bias.{Bias}
-use Rattle.rwsem_count.specs.declared.view.Bias.TheVariants.{Clear, Transit}
 use Rattle.rwsem_count.specs.Counts.{based}
 use Rattle.rwsem_count.specs.CountWordSteps.{IsReadFree}
+use Rattle.rwsem_count.specs.Types.{Entry, View, Hand, Held, Shared, Alone, Bias, Clear, Transit}
 
 module _ {E : Type 0} where
   -- a reader's try saw this word, and left it

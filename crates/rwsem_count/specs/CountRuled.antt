@@ -3,23 +3,17 @@ use Rattle.std.specs.Prelude.{◌≡◌, ℕ, ◌+◌, ◌/◌, ◌%◌, ◌≤�
 use Rattle.word_bits.specs.LockWords.{counted}
 use Rattle.word_bits.specs.Objects.{Obj}
 use Rattle.word_bits.specs.Histories.{Plan}
-use Rattle.lock_core.specs.declared.view.View.{View}
-use Rattle.lock_core.specs.declared.view.Hand.{Hand}
-use Rattle.lock_core.specs.declared.view.Marks.{Marks}
-use Rattle.lock_core.specs.declared.view.Moment.{Moment}
 use Rattle.lock_core.specs.declared.layout.TheConstants.{SPIN_ROOM}
 use Rattle.lock_core.specs.Layout.{site, width}
-use Rattle.lock_core.specs.Views.{hand_of, held_weight}
+use Rattle.lock_core.specs.Views.{hand_of, held_weight, number_weight}
 use Rattle.lock_core.specs.Sites.{SiteKept}
 use Rattle.lock_core.specs.Moves.{SiteMove}
 use Rattle.lock_core.specs.ViewParts.{Each}
 use Rattle.lock_core.specs.Pasts.{opening}
 use Rattle.lock_core.specs.SiteStated.{IsSite}
-use Rattle.rwsem_count.specs.declared.view.Bias.{Bias}
-use Rattle.rwsem_count.specs.declared.view.Bias.TheVariants.{Clear, Transit, Reserve}
 use Rattle.rwsem_count.specs.Counts.{CountKept, CountPart, count_part}
-use Rattle.rwsem_count.specs.Laws.Numbers.{number_weight}
 use Rattle.rwsem_count.specs.CountStated.{StatesCount, kept_bias}
+use Rattle.rwsem_count.specs.Types.{View, Hand, Marks, Moment, Bias, Clear, Transit, Reserve}
 
 -- the place of the count, behind the room of the spin locks
 abbrev pub count_at : ℕ

@@ -1,7 +1,7 @@
 -- What a count word states.
 use Rattle.std.specs.Prelude.{◌≡◌, ℕ, ◌+◌, ◌≤◌, Bool, true, false, List, [], ◌∷◌, length, is_some, Option}
 use Rattle.word_bits.specs.declared.TheConstants.{MAX_TASKS}
-use Rattle.word_bits.specs.declared.count.Count.{Count}
+use Rattle.rwsem_count.specs.Types.{Count}
 use Rattle.word_bits.specs.CountWord.{IsCount, count_word}
 
 -- who holds a semaphore, how many biases are in its count by which nobody holds, who waits in its list, and whether the first waiter is marked

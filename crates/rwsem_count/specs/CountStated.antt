@@ -3,17 +3,12 @@ use Rattle.std.specs.Prelude.{◌≡◌, ◌≢◌, ℕ, ◌+◌, ◌*◌, ◌�
 use mathlib.Core.Option.{some}
 use lib.ListN.{get_elem?}
 use Rattle.word_bits.specs.declared.TheConstants.{MAX_TASKS}
-use Rattle.word_bits.specs.declared.count.Count.{Count}
 use Rattle.word_bits.specs.CountWord.{count_word}
 use Rattle.word_bits.specs.OwnerWord.{bit}
-use Rattle.lock_core.specs.declared.view.Hand.{Hand}
-use Rattle.lock_core.specs.declared.view.Held.TheVariants.{No}
-use Rattle.lock_core.specs.declared.view.Marks.{Marks}
 use Rattle.lock_core.specs.Views.{alone_of}
 use Rattle.lock_core.specs.Totals.{total}
-use Rattle.rwsem_count.specs.declared.view.Bias.{Bias}
-use Rattle.rwsem_count.specs.declared.view.Bias.TheVariants.{Clear, Transit, Reserve}
 use Rattle.rwsem_count.specs.Counts.{shared_weight}
+use Rattle.rwsem_count.specs.Types.{Count, Hand, No, Marks, Bias, Clear, Transit, Reserve}
 
 -- what a moment keeps of a pass: the word that the addition of its bias saw, where it has one
 abbrev pub kept_bias : Bias → List ℕ

@@ -1,14 +1,9 @@
 -- The count's own facts, over how each pass holds and which bias it has added.
 use Rattle.std.specs.Prelude.{◌≡◌, ◌≢◌, ℕ, ◌+◌, ◌-◌, ◌/◌, ◌%◌, ◌<◌, ◌⊎◌, List, None}
-use Rattle.lock_core.specs.declared.view.View.{View}
-use Rattle.lock_core.specs.declared.view.Hand.{Hand}
-use Rattle.lock_core.specs.declared.view.Held.{Held}
-use Rattle.lock_core.specs.declared.view.Held.TheVariants.{No, Shared, Alone}
+use Rattle.rwsem_count.specs.Types.{View, Hand, Held, No, Shared, Alone, Bias, Clear, Transit, Reserve}
 use Rattle.lock_core.specs.Views.{alone_weight}
 use Rattle.lock_core.specs.Sites.{HandGoes}
 use Rattle.lock_core.specs.Totals.{total}
-use Rattle.rwsem_count.specs.declared.view.Bias.{Bias}
-use Rattle.rwsem_count.specs.declared.view.Bias.TheVariants.{Clear, Transit, Reserve}
 
 -- what the count has of a pass
 pub record CountPart : Type 0 where

@@ -1,3 +1,4 @@
+pub mod Types
 pub mod Counts
 pub mod CountSemaphores
 pub mod CountWordSteps

@@ -4,8 +4,6 @@ ghost use mathlib.Core.Option.{some};
 ghost use lib.ListN.{get_elem?};
 ghost use Rattle.word_bits.specs.LockWords.{IsLawfulCount};
 ghost use Rattle.word_bits.specs.Histories.{Plan as Calls};
-ghost use Rattle.lock_core.specs.declared.view.View.{View};
-ghost use Rattle.lock_core.specs.declared.view.Hand.{Hand};
 ghost use Rattle.lock_core.specs.declared.layout.TheConstants.{LOCK_WORDS};
 ghost use Rattle.lock_core.specs.Layout.{site};
 ghost use Rattle.lock_core.specs.Stores.{HasWord};
@@ -14,6 +12,7 @@ ghost use Rattle.lock_core.specs.Sites.{SiteKept};
 ghost use Rattle.lock_core.specs.Moves.{Goes, TriesWhere};
 ghost use Rattle.rwsem_count.specs.declared.view.Bias.{Bias as ABias};
 ghost use Rattle.rwsem_count.specs.Counts.{CountKept, CountMove, CountPart, HandStep, based, count_part, part};
+ghost use Rattle.rwsem_count.specs.Types.{View, Hand};
 
 use crate::view::Bias;
 use lock_core::SiteRule;

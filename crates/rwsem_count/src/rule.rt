@@ -1,9 +1,9 @@
 //! The rule of a table with a count alone.
 ghost use Rattle.word_bits.specs.LockWords.{counted};
-ghost use Rattle.rwsem_count.specs.declared.view.Bias.TheVariants.{Clear};
 ghost use Rattle.rwsem_count.specs.CountRuled.{CountMoves, CountRuleKept, IsPlain, count_at, may_count, may_miss, new_bias, same_bias};
 ghost use Rattle.rwsem_count.specs.Laws.CountRuled.{count-inside, count-there, rule-site, rule-count, rule-sites, rule-opens, rule-splits, rule-joins, rule-counts, rule-looks};
 ghost use Rattle.rwsem_count.specs.CountStated.{kept_bias};
+ghost use Rattle.rwsem_count.specs.Types.{Clear};
 ghost use Rattle.std.specs.Prelude.{◌≡◌, ◌<◌, false, refl};
 
 use crate::host::CountHost;

@@ -1,7 +1,6 @@
 //! Sites with a count.
 ghost use Rattle.std.specs.Prelude.{◌≡◌, ◌<◌, ◌≤◌, ◌+◌, ℕ, false, true, None, IsSome, IfOk, IfErr, [], ◌∷◌, length};
 ghost use Rattle.word_bits.specs.LockWords.{counted};
-ghost use Rattle.lock_core.specs.declared.view.Held.TheVariants.{No, Shared, Alone};
 ghost use Rattle.lock_core.specs.Holding.{downgraded, released};
 ghost use Rattle.lock_core.specs.Kinds.{semaphore, wakes_alone, wakes_shared};
 ghost use Rattle.lock_core.specs.Locking.{Downgrades, Misses, Releases, Takes};
@@ -10,12 +9,12 @@ ghost use Rattle.lock_core.specs.Views.{first, ticked, handed, split_off, merged
 ghost use Rattle.lock_core.specs.Pasts.{EachMoment, FoundAt, IsMarked, KeepsJoined, Ran, Tail};
 ghost use Rattle.lock_core.specs.SiteStated.{IsNew, IsSiteMove};
 ghost use Rattle.lock_core.specs.Linear.{IsLinearizable};
-ghost use Rattle.rwsem_count.specs.declared.view.Bias.TheVariants.{Clear};
 ghost use Rattle.rwsem_count.specs.Counts.{based};
 ghost use Rattle.rwsem_count.specs.CountRuled.{IsCountSiteThen, IsPlain, count_at, new_bias, newest};
 ghost use Rattle.rwsem_count.specs.CountStated.{kept_bias};
 ghost use Rattle.rwsem_count.specs.CountTries.{FindsFree, FindsShut, IsTransit, LeftBy, MissesCount, MissesSince, TakesCount, TakesSince};
 ghost use Rattle.rwsem_count.specs.CountWordSteps.{IsReadFree};
+ghost use Rattle.rwsem_count.specs.Types.{No, Shared, Alone, Clear};
 
 use crate::pass::CountPass;
 use crate::rule::CountRule;

@@ -1,14 +1,13 @@
 //! The single steps on the count of any host.
 ghost use Rattle.std.specs.Prelude.{◌≡◌, ◌≢◌, ◌+◌, ◌-◌, ℕ, false, IsSome, IfOk, IfErr};
 ghost use Rattle.word_bits.specs.LockWords.{IsLawfulCount};
-ghost use Rattle.lock_core.specs.declared.view.Held.TheVariants.{No, Shared, Alone};
 ghost use Rattle.lock_core.specs.SiteHandles.{plan_of, view_of, hand_in, past_of, task_in, held_in, SitsAt, StepsAt, SaysSame};
 ghost use Rattle.lock_core.specs.Holding.{downgraded, missed, released};
 ghost use Rattle.lock_core.specs.Pasts.{FoundAt};
-ghost use Rattle.rwsem_count.specs.declared.view.Bias.TheVariants.{Clear, Transit};
 ghost use Rattle.rwsem_count.specs.Counts.{based};
 ghost use Rattle.rwsem_count.specs.CountPlays.{Leaves, ReadAdded, WriteTaken};
 ghost use Rattle.rwsem_count.specs.CountTries.{FindsFree, FindsShut, LeftBy, MissesCount, TakesCount, IsTransit};
+ghost use Rattle.rwsem_count.specs.Types.{No, Shared, Alone, Clear, Transit};
 
 use crate::host::CountHost;
 use crate::word::{BIAS, WRITER};

@@ -1,13 +1,12 @@
 //! A reader's try: a loop over exchanges of the count of any host.
 ghost use Rattle.std.specs.Prelude.{◌≡◌, ◌≢◌, ◌+◌, ℕ, IsSome, IfOk, IfErr};
 ghost use Rattle.word_bits.specs.LockWords.{IsLawfulCount};
-ghost use Rattle.lock_core.specs.declared.view.Held.TheVariants.{No, Shared};
 ghost use Rattle.lock_core.specs.SiteHandles.{plan_of, view_of, past_of, task_in, held_in, SitsAt, StepsAt, SaysSame};
 ghost use Rattle.lock_core.specs.Pasts.{FoundAt};
-ghost use Rattle.rwsem_count.specs.declared.view.Bias.TheVariants.{Clear};
 ghost use Rattle.rwsem_count.specs.CountPlays.{Looked, ReadTaken};
 ghost use Rattle.rwsem_count.specs.CountTries.{FindsFree, MayMissSince, MayReadSince, MissesSince, SawCount, TakesCount, TakesSince};
 ghost use Rattle.rwsem_count.specs.CountWordSteps.{IsReadFree};
+ghost use Rattle.rwsem_count.specs.Types.{No, Shared, Clear};
 
 use crate::host::CountHost;
 use crate::word::BIAS;

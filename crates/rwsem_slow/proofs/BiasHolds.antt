@@ -9,15 +9,6 @@ use Rattle.atomic_table.proofs.Lists.{at_map}
 use Rattle.word_bits.specs.LockWords.{counted}
 use Rattle.word_bits.specs.Objects.{Obj}
 use Rattle.word_bits.specs.Histories.{Plan}
-use Rattle.lock_core.specs.declared.how.How.{How}
-use Rattle.lock_core.specs.declared.how.How.TheVariants.{Fast, Spun, Slept}
-use Rattle.lock_core.specs.declared.how.Interrupted.{Interrupted}
-use Rattle.lock_core.specs.declared.op.Op.TheVariants.{Load}
-use Rattle.lock_core.specs.declared.tally.Tally.{Tally}
-use Rattle.lock_core.specs.declared.view.Hand.{Hand}
-use Rattle.lock_core.specs.declared.view.Moment.{Moment}
-use Rattle.lock_core.specs.declared.view.Held.{Held}
-use Rattle.lock_core.specs.declared.view.Held.TheVariants.{No, Shared, Alone}
 use Rattle.lock_core.specs.Holding.{Learns}
 use Rattle.lock_core.specs.Kinds.{lets_in, semaphore}
 use Rattle.lock_core.specs.Layout.{site}
@@ -32,14 +23,10 @@ use Rattle.lock_core.specs.Views.{alone_of, hand_of, ticked, took}
 use Rattle.lock_core.proofs.HandLaws.{false-or-true, no-alone}
 use Rattle.lock_core.proofs.HoldSteps.{quiet-state, site-takes}
 use Rattle.lock_core.proofs.RowLaws.{none-some}
-use Rattle.rwsem_count.specs.declared.view.Bias.TheVariants.{Clear, Transit}
 use Rattle.rwsem_count.specs.Counts.{CountPart, count_part, early_in, early_weight, part}
 use Rattle.rwsem_count.specs.Laws.Count.{count-keeps}
 use Rattle.rwsem_count.specs.CountTries.{FindsShut, IsTransit}
 use Rattle.rwsem_count.proofs.Counting.{alone-parts, its-plan}
-use Rattle.rwsem_wake.specs.declared.view.SemHand.{SemHand}
-use Rattle.rwsem_wake.specs.declared.view.Wait.TheVariants.{Apart}
-use Rattle.rwsem_wake.specs.declared.view.Stage.TheVariants.{Rest}
 use Rattle.rwsem_wake.specs.SemParts.{transit_weight}
 use Rattle.rwsem_wake.specs.Grants.{with_changes}
 use Rattle.rwsem_wake.specs.GrantQueues.{HoldsBy}
@@ -51,6 +38,7 @@ use Rattle.rwsem_slow.specs.Laws.RwSem.{sem-hints}
 use Rattle.rwsem_wake.specs.RwSemViews.{V, count_at, hint_at, with_sem, with_wake, IsDone}
 use Rattle.rwsem_slow.specs.RwSems.{Kept, RwSemMoves, bias_of, biased, count_in, more_in, owes_after}
 use Rattle.rwsem_slow.specs.Stealing.{MaySteal, StealsBy, WentOn, left_by}
+use Rattle.rwsem_slow.specs.Types.{How, Fast, Spun, Slept, Interrupted, Load, Tally, Hand, Moment, Held, No, Shared, Alone, Clear, Transit, SemHand, Apart, Rest}
 
 -- it may, or it may not
 may-or-not : (left hint : ℕ) {P : Type 0} → (MaySteal left hint → P) → ((MaySteal left hint → ⊥) → P) → P

@@ -5,29 +5,22 @@ use lib.ListN.{get_elem?}
 use Rattle.atomic_table.proofs.Lists.{at_map}
 use Rattle.word_bits.specs.Objects.{Obj}
 use Rattle.word_bits.specs.Histories.{Plan}
-use Rattle.lock_core.specs.declared.view.Moment.{Moment}
-use Rattle.lock_core.specs.declared.view.Marks.{Marks}
 use Rattle.lock_core.specs.Laws.Locked.{move-steps}
 use Rattle.lock_core.specs.ViewParts.{Each}
 use Rattle.lock_core.specs.Pasts.{ChangesOneWord, Instant, Moves, marks_of, Paced, Ran, instant, moment}
 use Rattle.lock_core.specs.Spins.{holds_in}
 use Rattle.lock_core.specs.Views.{spin_of}
-use Rattle.wait_list.specs.declared.view.Waiter.{Waiter}
-use Rattle.wait_list.specs.declared.view.Change.{Change}
-use Rattle.wait_list.specs.declared.view.Change.TheVariants.{Stay, Enter, Leave}
 use Rattle.wait_list.specs.Lists.{Allowed, MadeBy as MadeUnderLock, Part, changed, list_part}
 use Rattle.wait_list.specs.Laws.List.{holds-or-not}
 use Rattle.wait_list.proofs.Determining.{kept-same}
-use Rattle.rwsem_wake.specs.declared.duty.SemWake.{SemWake}
-use Rattle.rwsem_wake.specs.declared.view.SemHand.{SemHand}
 use Rattle.rwsem_wake.specs.SemParts.{SemPart, busy_of}
 use Rattle.rwsem_wake.specs.Handoffs.{KeepsHandoff}
 use Rattle.rwsem_wake.specs.GrantsStated.{Picks}
-use Rattle.rwsem_wake.specs.declared.view.RwSemHand.{RwSemHand}
 use Rattle.rwsem_slow.specs.WakesGo.{WakeStands, WakesGo, wake_stands}
 use Rattle.rwsem_wake.specs.RwSemViews.{V, count_at, list_of, seen}
 use Rattle.rwsem_slow.specs.RwSems.{IsLocked, IsMadeBy, Kept, RwSemKept, RwSemMoves, count_in, entered, grants_in, marks_in, standing, wake_words}
 use Rattle.rwsem_slow.specs.RwSemStated.{HasBecome, HasNoBatch, HasWaitLock, IsRwSemStep, MadeBy, stance}
+use Rattle.rwsem_slow.specs.Types.{Moment, Marks, Waiter, Change, Stay, Enter, Leave, SemWake, SemHand, RwSemHand}
 use Rattle.rwsem_slow.proofs.MarkedCounts.{same-wakes}
 use Rattle.rwsem_slow.proofs.Stating.{queued}
 

@@ -3,12 +3,10 @@ use Rattle.std.proofs.Common.{◌≡◌, ◌∙◌, ℕ, ◌+◌, ◌≤◌, ref
 use Rattle.std.specs.Prelude.{Result, Ok, Err, IfOk, IfErr}
 use Rattle.cpu_task.proofs.SleepCounts.{sleeps-once, turns-same}
 use Rattle.cpu_task.specs.CpuCounting.{DozesOnce, SleepsInTurns, slept}
-use Rattle.lock_core.specs.declared.how.How.{How}
-use Rattle.lock_core.specs.declared.how.How.TheVariants.{Fast, Spun, Slept}
-use Rattle.lock_core.specs.declared.how.Interrupted.{Interrupted}
 use Rattle.lock_core.specs.Shown.{Shown}
 use Rattle.rwsem_slow.specs.SleepCounting.{CountsLeaving, CountsReading, CountsWriting, SleepsBetween}
 use Rattle.rwsem_slow.specs.Stealing.{WentOn}
+use Rattle.rwsem_slow.specs.Types.{How, Fast, Spun, Slept, Interrupted}
 
 pub ok-turns : {A B : Type 0} (more entries from to sleeps sleeps' now : ℕ) (r : Result A B) → from ≡ entries → sleeps' ≡ sleeps → IfOk r (λ _. SleepsInTurns (from + more) to sleeps' now) → IfOk r (λ _. SleepsInTurns (entries + more) to sleeps now)
 ok-turns more entries from to sleeps sleeps' now (Ok a) same still s = turns-same more entries from to sleeps sleeps' now same still s

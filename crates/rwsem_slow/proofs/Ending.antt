@@ -1,13 +1,12 @@
 -- How a release changes the count, and whether it goes through the wait lock.
 use Rattle.std.proofs.Common.{◌≡◌, ◌∙◌, ℕ, ◌+◌, ◌<◌, ◌≤◌, List, sym, ap, subst}
-use Rattle.lock_core.specs.declared.view.Held.{Held}
-use Rattle.lock_core.specs.declared.view.Moment.{Moment}
 use Rattle.lock_core.specs.Pasts.{FoundAt, GoesOn, IsOwnStep}
 use Rattle.lock_core.specs.Laws.SiteRun.{step-by}
 use Rattle.lock_core.specs.Shown.{LeavesHold, shown}
 use Rattle.rwsem_wake.specs.RwSemViews.{V, count_at}
 use Rattle.rwsem_wake.specs.RwSemPlaces.{line_of}
 use Rattle.rwsem_slow.specs.Releasing.{LeavesCount, TurnsHold, WentThrough}
+use Rattle.rwsem_slow.specs.Types.{Held, Moment}
 
 -- a step that left the hand
 pub leaves-hold : (v h u : V) (p r q : List Moment) (s : ℕ) → h.hand ≡ v.hand → s ≡ h.steps → IsOwnStep h r → GoesOn p r → GoesOn r q → LeavesHold s v.hand.held (shown line_of v.fronts v p) (shown line_of u.fronts u q)

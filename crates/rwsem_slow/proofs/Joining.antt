@@ -1,17 +1,13 @@
 -- What appending itself makes of where a pass stands.
 use Rattle.std.proofs.Common.{◌≡◌, ◌≢◌, ◌∙◌, ℕ, ◌+◌, ◌≤◌, ◌==◌, Bool, true, false, List, [], ◌∷◌, ◌++◌, length, Some, sym, ap, subst, arith, eq-eqb, ne_eqb, if◌then◌else◌}
 use Rattle.lock_core.specs.Views.{SpinHolds}
-use Rattle.wait_list.specs.declared.view.Waiter.{Waiter}
-use Rattle.wait_list.specs.declared.view.Change.TheVariants.{Enter}
-use Rattle.wait_list.specs.declared.view.ListHand.{ListHand}
 use Rattle.wait_list.specs.Lists.{Appends, FindsFirst, IsList, Knows, first_code, first_of, list_part}
 use Rattle.wait_list.proofs.Joining.{alone-first, holds-one, others-first}
-use Rattle.rwsem_wake.specs.declared.view.Stage.TheVariants.{Rest, First, Joining}
-use Rattle.rwsem_wake.specs.declared.view.Wait.TheVariants.{Reads, Writes}
 use Rattle.rwsem_wake.specs.SemParts.{apart_hand}
 use Rattle.rwsem_wake.specs.Grants.{TurnsTo}
 use Rattle.rwsem_wake.specs.GrantQueues.{rested}
 use Rattle.rwsem_slow.specs.Queued.{Becomes, comes, waiting}
+use Rattle.rwsem_slow.specs.Types.{Waiter, Enter, ListHand, Rest, First, Joining, Reads, Writes}
 use Rattle.rwsem_wake.specs.Removals.{KnowsList}
 use Rattle.rwsem_wake.specs.RwSemViews.{V, list_of, with_list, with_sem}
 

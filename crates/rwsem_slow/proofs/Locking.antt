@@ -13,13 +13,13 @@ use Rattle.lock_core.specs.Records.{bit}
 use Rattle.lock_core.specs.Totals.{total}
 use Rattle.lock_core.specs.Views.{alone_of, hand_of}
 use Rattle.lock_core.proofs.Stating.{kept-states}
-use Rattle.wait_list.specs.declared.view.Waiter.{Waiter}
 use Rattle.wait_list.specs.Lists.{counted}
 use Rattle.rwsem_wake.specs.SemParts.{alone_of as alone_in, shared_of as shared_in}
 use Rattle.rwsem_wake.proofs.Places.{some-length}
 use Rattle.rwsem_wake.specs.RwSemViews.{V, count_at, seen}
 use Rattle.rwsem_slow.specs.RwSems.{Kept, standing}
 use Rattle.rwsem_slow.specs.RwSemStated.{task_of, waits_on}
+use Rattle.rwsem_slow.specs.Types.{Waiter}
 use Rattle.rwsem_slow.proofs.Stating.{queued}
 
 -- the same passes hold alone and shared, as the parts and as the hands have it

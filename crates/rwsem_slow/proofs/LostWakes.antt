@@ -2,14 +2,11 @@
 use Rattle.std.proofs.Common.{◌≡◌, ℕ, zero, suc, ◌≤◌, ◌⊎◌, inl, inr, List, [], ◌∷◌, length, sym, refl, ap, ◌∙◌, arith}
 use mathlib.Core.Option.{some, some-injective, some-ne-none}
 use lib.ListN.{get_elem?}
-use Rattle.lock_core.specs.declared.view.Moment.{Moment}
-use Rattle.rwsem_count.specs.declared.view.Bias.{Bias}
-use Rattle.rwsem_count.specs.declared.view.Bias.TheVariants.{Clear, Transit, Reserve}
 use Rattle.rwsem_wake.specs.Duties.{kept_of, kept_weight}
 use Rattle.rwsem_wake.specs.SemParts.{SemPart, reserve_of, reserve_weight, transit_of, transit_weight}
-use Rattle.wait_list.specs.declared.view.Waiter.{Waiter}
 use Rattle.rwsem_slow.specs.RwSemStated.{IsQueued}
 use Rattle.rwsem_slow.specs.LostWakes.{HasReserve, HasTransit, LosesNoWake}
+use Rattle.rwsem_slow.specs.Types.{Moment, Bias, Clear, Transit, Reserve, Waiter}
 
 -- a bias that keeps writers out is in transit or reserved
 kept-cases : (b : Bias) → 1 ≤ kept_weight b → (transit_weight b ≡ 1) ⊎ ((reserve_weight b ≡ 1) × (kept_weight b ≡ 1))

@@ -1,16 +1,12 @@
 -- What the marks of a pass say of wakes.
 use Rattle.std.proofs.Common.{◌≡◌, ◌∙◌, ℕ, Bool, true, false, List, [], ◌∷◌, ◌++◌, length, get_or, refl, sym, ap, arith}
-use Rattle.lock_core.specs.declared.view.Marks.{Marks}
 use Rattle.lock_core.specs.Pasts.{marks_of}
 use Rattle.lock_core.specs.Records.{bit}
-use Rattle.rwsem_wake.specs.declared.duty.SemWake.{SemWake}
-use Rattle.rwsem_count.specs.declared.view.Bias.{Bias}
-use Rattle.rwsem_count.specs.declared.view.Bias.TheVariants.{Clear, Transit, Reserve}
-use Rattle.rwsem_wake.specs.declared.view.SemHand.{SemHand}
 use Rattle.rwsem_slow.specs.WakesGo.{wake_stands}
 use Rattle.rwsem_wake.specs.RwSemViews.{V}
 use Rattle.rwsem_slow.specs.RwSems.{bias_codes, numbers_of, stage_code, standing, wait_code, wake_codes}
 use Rattle.rwsem_slow.specs.RwSemStated.{stance}
+use Rattle.rwsem_slow.specs.Types.{Marks, SemWake, Bias, Clear, Transit, Reserve, SemHand}
 
 -- the numbers of a mark behind those of its bias
 abbrev behind-bias : List ℕ → List ℕ

@@ -1,12 +1,11 @@
 -- A task that queued has chosen others, and sets their wake words.
 use Rattle.std.proofs.Common.{◌≡◌, ◌∙◌, ℕ, ◌++◌, List, [], ap}
-use Rattle.rwsem_wake.specs.declared.view.Wait.{Wait}
-use Rattle.rwsem_wake.specs.declared.duty.SemWake.{SemWake}
 use Rattle.wake_duty.specs.DutyWakes.{waits}
 use Rattle.rwsem_wake.specs.RwSemViews.{V}
 use Rattle.rwsem_wake.specs.Removals.{StaysBeside}
 use Rattle.rwsem_wake.specs.RwSemWakes.{HasChosenAll, IsAtRest, SetsAll}
 use Rattle.rwsem_slow.specs.Queued.{IsInLine, IsInLineToWake}
+use Rattle.rwsem_slow.specs.Types.{Wait, SemWake}
 
 -- it looked whom to wake, and is to wake those
 pub marks : (wait : Wait) (tasks : List ℕ) (v u : V) → v.ext.sem.wait ≡ wait → v.ext.wake.chosen ≡ [] → waits v.ext.wake.wait_state ≡ 1 → StaysBeside v u → IsAtRest u → HasChosenAll tasks v u → IsInLineToWake wait tasks u

@@ -3,25 +3,18 @@ use Rattle.std.proofs.Common.{◌≡◌, ◌∙◌, ℕ, ◌<◌, ◌≤◌, Lis
 use Rattle.std.specs.Prelude.{Result, Ok, Err, IfOk}
 use Rattle.word_bits.specs.Objects.{Obj}
 use Rattle.word_bits.specs.Histories.{Plan}
-use Rattle.lock_core.specs.declared.how.How.{How}
-use Rattle.lock_core.specs.declared.how.How.TheVariants.{Fast, Spun, Slept}
-use Rattle.lock_core.specs.declared.how.Interrupted.{Interrupted}
-use Rattle.lock_core.specs.declared.pass.Pass.{Pass}
-use Rattle.lock_core.specs.declared.site.Site.{Site}
-use Rattle.lock_core.specs.declared.view.Held.{Held}
-use Rattle.lock_core.specs.declared.view.Moment.{Moment}
 use Rattle.lock_core.specs.SiteHandles.{view_of, task_in, SitsAt, KeepsPast}
 use Rattle.lock_core.specs.Pasts.{FoundAt, GoesOn, IsOwnStep}
 use Rattle.lock_core.specs.Laws.SiteRun.{step-by}
 use Rattle.lock_core.specs.Shown.{Shown, PastGoesOn, shown}
 use Rattle.lock_core.proofs.Within.{found-within}
 use Rattle.rwsem_count.specs.CountTries.{TakesSince}
-use Rattle.rwsem_wake.specs.declared.view.RwSemHand.{RwSemHand}
 use Rattle.rwsem_slow.specs.RwSemOpening.{TakesFrom, TakesOpen}
 use Rattle.rwsem_wake.specs.RwSemPlaces.{line_of, seen_of}
 use Rattle.rwsem_wake.specs.RwSemViews.{V, count_at}
 use Rattle.rwsem_slow.specs.RwSems.{biased}
 use Rattle.rwsem_slow.specs.Stealing.{WentOn}
+use Rattle.rwsem_slow.specs.Types.{How, Fast, Spun, Slept, Interrupted, Pass, Site, Held, Moment, RwSemHand}
 
 -- the pass's last step found the count, and left the pass holding
 pub takes-from : (held : Held) (fits : ℕ → Type 0) (v u : V) (p q : List Moment) (n : ℕ) → u.hand.task ≡ v.hand.task → u.hand.held ≡ held → v.steps < u.steps → IsOwnStep u q → GoesOn p q → FoundAt count_at n q → fits n → TakesFrom held fits (shown line_of v.fronts v p) (shown line_of u.fronts u q)

@@ -3,13 +3,13 @@ use Rattle.std.proofs.Common.{◌≡◌, ◌≢◌, ◌∙◌, ℕ, zero, ◌+�
 use Rattle.std.proofs.lemmas.List.{append-nil, length_push}
 use Rattle.lock_core.specs.Records.{bit}
 use Rattle.lock_core.proofs.HandLaws.{not-both}
-use Rattle.wait_list.specs.declared.view.Waiter.{Waiter}
 use Rattle.wait_list.specs.Lists.{IsList, counted, first_code, without}
 use Rattle.rwsem_wake.specs.Batches.{batch_of, reads, starts_with_reader, task_of}
 use Rattle.rwsem_wake.specs.SemParts.{IsWhole}
 use Rattle.rwsem_wake.specs.GrantsStated.{IsFirstReader}
 use Rattle.rwsem_wake.proofs.FirstReaders.{reader-counts}
 use Rattle.rwsem_slow.specs.Picking.{PicksBatchInTurn, PicksFirstReaders, PicksInTurn, PicksWholeBatch}
+use Rattle.rwsem_slow.specs.Types.{Waiter}
 use Rattle.rwsem_wake.specs.Removals.{AreHeads, BeginsWith, without_all}
 use Rattle.rwsem_wake.proofs.Removing.{all-readers, heads-behind-it, heads-first, readers-all, sound-behind}
 use Rattle.rwsem_wake.specs.declared.batches.TheConstants.{MAX_READERS_WAKEUP}

@@ -1,24 +1,13 @@
 -- A waiter that is interrupted leaves the list.
 use Rattle.std.proofs.Common.{◌≡◌, ◌≢◌, ◌∙◌, ℕ, ◌+◌, ◌≤◌, ◌==◌, inl, inr, Bool, true, false, List, [], ◌∷◌, ◌++◌, length, Option, Some, None, sym, refl, ap, subst, arith, eq-eqb, ne_eqb, eqb-true, if◌then◌else◌}
 use Rattle.std.proofs.lemmas.List.{append-nil}
-use Rattle.lock_core.specs.declared.view.Hand.{Hand}
-use Rattle.lock_core.specs.declared.how.Interrupted.{Interrupted}
 use Rattle.lock_core.specs.Signals.{HasHeard, HearsOfBoth}
 use Rattle.lock_core.specs.Records.{bit}
 use Rattle.lock_core.specs.Shown.{PastGoesOn, Shown}
 use Rattle.lock_core.specs.Views.{SpinHolds}
 use Rattle.lock_core.proofs.Within.{since-within}
-use Rattle.wait_list.specs.declared.view.Change.TheVariants.{Leave}
-use Rattle.wait_list.specs.declared.view.ListHand.{ListHand}
-use Rattle.wait_list.specs.declared.view.Waiter.{Waiter}
 use Rattle.wait_list.specs.Lists.{AllowsChange, FindsFirst, IsList, Knows, Removes, first_code, first_of, list_part, waiter_code, without}
-use Rattle.rwsem_count.specs.declared.view.Bias.TheVariants.{Clear}
-use Rattle.wake_duty.specs.declared.view.WaitState.TheVariants.{Absent}
-use Rattle.rwsem_wake.specs.declared.duty.SemWake.{SemWake}
 use Rattle.rwsem_wake.specs.Duties.{heard_locked_at, paid}
-use Rattle.rwsem_wake.specs.declared.view.SemHand.{SemHand}
-use Rattle.rwsem_wake.specs.declared.view.Stage.TheVariants.{Armed, Emptied}
-use Rattle.rwsem_wake.specs.declared.view.Wait.TheVariants.{Apart, Reads}
 use Rattle.rwsem_wake.specs.SemParts.{apart_hand, some_of}
 use Rattle.rwsem_wake.specs.Batches.{starts_with_reader}
 use Rattle.rwsem_wake.specs.Grants.{OnlySem, ChangesTo, TurnsTo, summing, unmarked}
@@ -27,8 +16,8 @@ use Rattle.rwsem_wake.specs.RwSemViews.{V, leaves_wake, list_of, parted, parted_
 use Rattle.rwsem_slow.specs.RwSems.{may_change}
 use Rattle.rwsem_wake.specs.Removals.{KnowsList, StaysBeside}
 use Rattle.rwsem_slow.specs.Queued.{Becomes, IsListed, Listens, LooksAt, Stays, waiting}
-use Rattle.rwsem_wake.specs.declared.wake.WakeType.TheVariants.{Any}
 use Rattle.rwsem_slow.specs.Leaving.{HasLeft, IsUnmarked, MayLeave, SeesUngranted, WakesOn, gone_first, left_wake, ungranted}
+use Rattle.rwsem_slow.specs.Types.{Hand, Interrupted, Leave, ListHand, Waiter, Clear, Absent, SemWake, SemHand, Armed, Emptied, Apart, Reads, Any}
 use Rattle.rwsem_wake.specs.RwSemWakes.{HasChosenAll, IsAtRest, SawWriter, woken_of}
 use Rattle.wait_list.proofs.Joining.{holds-one}
 use Rattle.rwsem_wake.proofs.FirstLooks.{code-of}

@@ -3,23 +3,12 @@ use Rattle.std.proofs.Common.{◌≡◌, ◌∙◌, rules, ℕ, zero, suc, ◌+�
 use Rattle.word_bits.specs.declared.TheConstants.{MAX_TASKS}
 use Rattle.word_bits.specs.Objects.{Obj}
 use Rattle.word_bits.specs.Histories.{Plan}
-use Rattle.lock_core.specs.declared.view.Hand.{Hand}
-use Rattle.lock_core.specs.declared.view.Held.TheVariants.{Shared}
 use Rattle.lock_core.specs.Holding.{Learns}
 use Rattle.lock_core.specs.Views.{SpinHolds, took}
-use Rattle.wait_list.specs.declared.view.Change.TheVariants.{Enter}
-use Rattle.wait_list.specs.declared.view.ListHand.{ListHand}
-use Rattle.wait_list.specs.declared.view.Waiter.{Waiter}
 use Rattle.wait_list.specs.Lists.{Appends, FindsFirst, IsList, Knows, first_of}
 use Rattle.wait_list.proofs.Waiters.{sound-changed}
-use Rattle.rwsem_count.specs.declared.view.Bias.TheVariants.{Clear, Transit}
-use Rattle.wake_duty.specs.declared.view.WaitState.TheVariants.{Tried}
 use Rattle.wake_duty.specs.WakeSteps.{HasTried}
-use Rattle.rwsem_wake.specs.declared.duty.SemWake.{SemWake}
 use Rattle.rwsem_wake.specs.SemDuties.{drowsing}
-use Rattle.rwsem_wake.specs.declared.view.SemHand.{SemHand}
-use Rattle.rwsem_wake.specs.declared.view.Stage.TheVariants.{Armed}
-use Rattle.rwsem_wake.specs.declared.view.Wait.TheVariants.{Reads}
 use Rattle.rwsem_wake.specs.SemParts.{apart_hand}
 use Rattle.rwsem_wake.specs.Grants.{ChangesTo, TurnsTo, armed, unreserved}
 use Rattle.rwsem_wake.specs.Duties.{left_by}
@@ -29,6 +18,7 @@ use Rattle.rwsem_wake.specs.RwSemPlaces.{dozes_of}
 use Rattle.rwsem_wake.specs.Removals.{KnowsList}
 use Rattle.rwsem_wake.specs.RwSemViews.{V, IsDone, joined, list_of, sem_of, with_list, with_sem, with_wake}
 use Rattle.rwsem_slow.specs.RwSems.{wait_state_of}
+use Rattle.rwsem_slow.specs.Types.{Hand, Shared, Enter, ListHand, Waiter, Clear, Transit, Tried, SemWake, SemHand, Armed, Reads}
 use Rattle.wait_list.proofs.Joining.{holds-one}
 use Rattle.rwsem_slow.proofs.WriterSteps.{knows-same}
 use Rattle.rwsem_slow.proofs.WaitStates.{listed-on}

@@ -2,12 +2,6 @@
 use Rattle.std.proofs.Common.{◌≡◌, ◌≢◌, ℕ, ◌+◌, ◌≤◌, Bool, true, false, List, inl, inr, refl, sym, ap, ◌∙◌, subst, arith}
 use Rattle.std.specs.Prelude.{Result, Ok, Err, IfErr}
 use Rattle.word_bits.specs.LockWords.{IsLawfulCount}
-use Rattle.lock_core.specs.declared.how.How.{How}
-use Rattle.lock_core.specs.declared.how.Interrupted.{Interrupted}
-use Rattle.lock_core.specs.declared.tally.Tally.{Tally}
-use Rattle.lock_core.specs.declared.view.Hand.{Hand}
-use Rattle.lock_core.specs.declared.view.Moment.{Moment}
-use Rattle.lock_core.specs.declared.view.Held.TheVariants.{No}
 use Rattle.lock_core.specs.Holding.{missed}
 use Rattle.lock_core.specs.Kinds.{semaphore, unavailable}
 use Rattle.lock_core.specs.Locking.{Interrupts, KeepsPlace, Looks, Misses, OnlyTried, SawPending, Sees}
@@ -24,6 +18,7 @@ use Rattle.rwsem_wake.specs.RwSemPlaces.{line_of}
 use Rattle.rwsem_slow.specs.Queued.{EntersLock}
 use Rattle.rwsem_wake.specs.RwSemViews.{V, count_at}
 use Rattle.rwsem_slow.specs.Spinning.{SawIfTried, SeesShut}
+use Rattle.rwsem_slow.specs.Types.{How, Interrupted, Tally, Hand, Moment, No}
 
 module _ (fronts swaps : ℕ) (tally : Tally) (v u : V) (p q : List Moment) (out : v.hand.held ≡ No) (own : IsOwnStep u q) (goes : GoesOn p q) where
   abbrev show : V → List Moment → Shown

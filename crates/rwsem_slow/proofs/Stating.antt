@@ -7,8 +7,6 @@ use Rattle.atomic_table.proofs.Lists.{at_map}
 use Rattle.word_bits.specs.LockWords.{counted as shut}
 use Rattle.word_bits.specs.Objects.{Obj}
 use Rattle.word_bits.specs.Histories.{Plan}
-use Rattle.lock_core.specs.declared.view.Hand.{Hand}
-use Rattle.lock_core.specs.declared.view.Moment.{Moment}
 use Rattle.lock_core.specs.Layout.{site}
 use Rattle.lock_core.specs.Locked.{IsWaitLockFree}
 use Rattle.lock_core.specs.ViewParts.{Each, at_unmap}
@@ -19,13 +17,9 @@ use Rattle.lock_core.specs.Totals.{total, total-at}
 use Rattle.lock_core.specs.Views.{hand_of, is_number, named_of, spin_of}
 use Rattle.lock_core.proofs.HandLaws.{false-or-true, held-none}
 use Rattle.lock_core.proofs.Stating.{kept-states}
-use Rattle.wait_list.specs.declared.view.Waiter.{Waiter}
 use Rattle.wait_list.specs.Lists.{AreTasks, Part, PartOk, changes_of, first_code, list_part}
 use Rattle.wait_list.specs.Laws.List.{holds-or-not}
-use Rattle.wake_duty.specs.declared.view.WaitState.{WaitState}
-use Rattle.wake_duty.specs.declared.view.WaitState.TheVariants.{Absent, Awake, Tried}
 use Rattle.wake_duty.specs.DutyWakes.{awake, waits, wake_word}
-use Rattle.rwsem_wake.specs.declared.duty.SemWake.{SemWake}
 use Rattle.rwsem_wake.specs.SemDuties.{DutyPart, answers, chose, first_writes, wakes_it, attends, times, wakes_first, where_so}
 use Rattle.rwsem_wake.specs.SemParts.{SemPart, alone_of, busy_of, busy_weight, granted_of, granting_of, reserve_of, rest_of, shared_of, transit_weight}
 use Rattle.rwsem_wake.specs.Duties.{overdue_of}
@@ -42,6 +36,7 @@ use Rattle.rwsem_wake.specs.RwSemViews.{V, IsDone, list_of, seen}
 use Rattle.rwsem_slow.specs.RwSems.{Kept, RwSemKept, count_in, duty_seen, grants_in, marks_in, standing, wake_words}
 use Rattle.rwsem_slow.specs.Laws.RwSem.{few-named}
 use Rattle.rwsem_slow.specs.RwSemStated.{HasWaitLock, IsQueued, IsBeingWoken, IsRwSemThen, SomebodyKeepsOut, SomebodyOwes, WakesMarked, stance}
+use Rattle.rwsem_slow.specs.Types.{Hand, Moment, Waiter, WaitState, Absent, Awake, Tried, SemWake}
 
 -- who doesn't wait has no wait_state
 waits-none : (x : WaitState) → waits x ≡ 0 → x ≡ Absent

@@ -11,12 +11,6 @@ use Rattle.atomic_table.proofs.Lists.{at_map, set_again}
 use Rattle.word_bits.specs.LockWords.{IsLawfulCount, counted}
 use Rattle.word_bits.specs.Objects.{Obj}
 use Rattle.word_bits.specs.Histories.{Plan}
-use Rattle.lock_core.specs.declared.op.Op.TheVariants.{Load, Exchange}
-use Rattle.lock_core.specs.declared.view.Hand.{Hand}
-use Rattle.lock_core.specs.declared.view.Held.TheVariants.{No, Shared, Alone}
-use Rattle.lock_core.specs.declared.view.Moment.{Moment}
-use Rattle.lock_core.specs.declared.view.Seen.{Seen}
-use Rattle.lock_core.specs.declared.pass.Face.{Face}
 use Rattle.lock_core.specs.Holding.{Learns, missed}
 use Rattle.lock_core.specs.Layout.{site}
 use Rattle.lock_core.specs.Moves.{Goes, Lets}
@@ -34,21 +28,19 @@ use Rattle.lock_core.proofs.HoldSteps.{quiet-state, site-misses, site-takes}
 use Rattle.lock_core.proofs.RowLaws.{none-some}
 use Rattle.lock_core.proofs.Sitting.{sits-on}
 use Rattle.lock_core.proofs.Steps.{chooses}
-use Rattle.rwsem_count.specs.declared.view.Bias.TheVariants.{Clear}
 use Rattle.rwsem_count.specs.Counts.{CountKept, CountMove, CountPart, based, count_part, part}
 use Rattle.rwsem_count.specs.Laws.Count.{count-writes}
 use Rattle.rwsem_count.specs.CountTries.{MissesSince}
 use Rattle.rwsem_count.proofs.Counting.{alone-parts, held-parts, its-plan}
 use Rattle.rwsem_count.proofs.Sitting.{sits-missed}
-use Rattle.rwsem_wake.specs.declared.view.SemHand.{SemHand}
 use Rattle.rwsem_wake.specs.SemParts.{apart_hand, transit_weight}
-use Rattle.rwsem_wake.specs.declared.view.RwSemHand.{RwSemHand}
 use Rattle.rwsem_slow.specs.Laws.CountHosting.{sem-count, sem-counted}
 use Rattle.rwsem_wake.specs.RwSemPlaces.{line_of}
 use Rattle.rwsem_slow.specs.Laws.RwSem.{sem-looks}
 use Rattle.rwsem_wake.specs.RwSemViews.{V, count_at}
 use Rattle.rwsem_slow.specs.RwSems.{Kept, RwSemMoves, bias_of, biased, count_in, more_in}
 use Rattle.rwsem_slow.specs.Spinning.{IsUnlocked, LookedUnqueued, SawUnqueued, SeenUnqueued, TakenUnqueued}
+use Rattle.rwsem_slow.specs.Types.{Load, Exchange, Hand, No, Shared, Alone, Moment, Seen, Face, Clear, SemHand, RwSemHand}
 
 -- to hold alone isn't to share
 alone-shared : {P : Type 0} → Alone ≡ Shared → P

@@ -1,20 +1,16 @@
 -- How a waiter that tries waits then.
 use Rattle.std.proofs.Common.{◌≡◌, ◌∙◌, ℕ, zero, suc, inl, inr, ◌+◌, ◌/◌, ◌%◌, ◌==◌, ◌&&◌, Bool, true, false, [], Some, refl, sym, ap, subst, arith, eq-eqb, ne_eqb, if◌then◌else◌}
 use Rattle.word_bits.specs.LockWords.{IsLawfulCount}
-use Rattle.wake_duty.specs.declared.view.WaitState.{WaitState}
-use Rattle.wake_duty.specs.declared.view.WaitState.TheVariants.{Absent, Awake, Tried}
 use Rattle.wake_duty.specs.DutyWakes.{after_failed_try, waits}
 use Rattle.wake_duty.specs.WakeSteps.{HasTried}
-use Rattle.rwsem_wake.specs.declared.duty.SemWake.{SemWake}
 use Rattle.rwsem_count.specs.CountWordSteps.{IsLocked}
 use Rattle.rwsem_wake.specs.Duties.{exchanged, after_failed_try_by, after_failed_try_unless, heard_locked_at, is_left, is_own, saw_count, saw_mark, sees_itself}
 use Rattle.rwsem_wake.specs.Grants.{ChangesTo, TurnsTo}
-use Rattle.rwsem_wake.specs.declared.view.SemHand.{SemHand}
-use Rattle.rwsem_wake.specs.declared.view.Wait.TheVariants.{Reads, Writes}
 use Rattle.wait_list.specs.Lists.{first_code}
 use Rattle.rwsem_wake.specs.RwSemViews.{V, list_of, with_sem, with_wake}
 use Rattle.rwsem_slow.specs.RwSems.{sleep_wait_state, sleeps_as, wait_state_of}
 use Rattle.rwsem_slow.specs.Queued.{HasTriedAt, IsInLine, IsListed, KeepsWaiting, Listens, Tries, waiting}
+use Rattle.rwsem_slow.specs.Types.{WaitState, Absent, Awake, Tried, SemWake, SemHand, Reads, Writes}
 
 pub keeps-same : (b : SemWake) → KeepsWaiting b b
 keeps-same b = record { is = refl; waits = refl }

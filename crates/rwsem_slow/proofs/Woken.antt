@@ -1,15 +1,12 @@
 -- Whom a part of a call wakes, the call wakes.
 use Rattle.std.proofs.Common.{◌≡◌, ◌∙◌, ℕ, ◌≤◌, List, arith, length, refl, sym, ap}
-use Rattle.lock_core.specs.declared.view.Held.{Held}
 use Rattle.cpu_task.specs.CpuCounting.{slept}
 use Rattle.lock_core.specs.Shown.{PastGoesOn, Shown}
 use Rattle.lock_core.proofs.Within.{counting, since-within}
-use Rattle.lock_core.specs.declared.tally.Tally.{Tally}
-use Rattle.wait_list.specs.declared.view.Waiter.{Waiter}
-use Rattle.rwsem_wake.specs.declared.wake.WakeType.{WakeType}
 use Rattle.rwsem_slow.specs.Leaving.{WakesOn}
 use Rattle.rwsem_slow.specs.Waking.{WakesIf, WakesLeft, WakesOf, WakesWaiting, behind}
 use Rattle.rwsem_slow.specs.Releasing.{TurnsHold}
+use Rattle.rwsem_slow.specs.Types.{Held, Tally, Waiter, WakeType}
 
 pub of-within : (kind : WakeType) (woken : List ℕ) (v a b u : Shown) → a.hand.task ≡ v.hand.task → v.steps ≤ a.steps → PastGoesOn v a → WakesOf kind woken a b → b.steps ≤ u.steps → PastGoesOn b u → WakesOf kind woken v u
 of-within kind woken v a b u same steps before w more after = record {

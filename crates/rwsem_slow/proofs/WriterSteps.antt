@@ -5,26 +5,15 @@ use native.Mathlib.Decide.{ℕ_discrete}
 use Rattle.word_bits.specs.LockWords.{IsLawfulCount}
 use Rattle.word_bits.specs.Objects.{Obj}
 use Rattle.word_bits.specs.Histories.{Plan}
-use Rattle.lock_core.specs.declared.view.Hand.{Hand}
-use Rattle.lock_core.specs.declared.view.Held.TheVariants.{Alone}
 use Rattle.lock_core.specs.Holding.{Learns}
 use Rattle.lock_core.specs.Records.{bit}
 use Rattle.lock_core.proofs.HandLaws.{not-both}
-use Rattle.wait_list.specs.declared.view.Change.TheVariants.{Leave}
-use Rattle.wait_list.specs.declared.view.ListHand.{ListHand}
-use Rattle.wait_list.specs.declared.view.Waiter.{Waiter}
 use Rattle.wait_list.specs.Lists.{FindsFirst, FindsNext, IsList, Knows, Removes, counted, first_code, first_of, next_of}
 use Rattle.wait_list.proofs.Waiters.{sound-changed}
-use Rattle.rwsem_count.specs.declared.word_steps.Write.TheVariants.{Fail, Mark, Take}
 use Rattle.rwsem_count.specs.CountWordSteps.{HasFlags, HasHandoff, Writes as WritesBy}
 use Rattle.wake_duty.specs.WakeSteps.{HasTried}
-use Rattle.rwsem_wake.specs.declared.duty.SemWake.{SemWake}
 use Rattle.rwsem_count.specs.CountWordSteps.{IsLocked}
 use Rattle.rwsem_wake.specs.Duties.{exchanged, saw_count}
-use Rattle.rwsem_wake.specs.declared.view.SemHand.{SemHand}
-use Rattle.rwsem_wake.specs.declared.view.Stage.TheVariants.{Rest, Marking, Took, Removed, Summing}
-use Rattle.rwsem_wake.specs.declared.view.Wait.{Wait}
-use Rattle.rwsem_wake.specs.declared.view.Wait.TheVariants.{Writes}
 use Rattle.rwsem_wake.specs.SemParts.{apart_hand}
 use Rattle.lock_core.specs.Views.{SpinHolds, took}
 use Rattle.rwsem_wake.specs.Grants.{ChangesTo, TurnsTo, with_changes}
@@ -33,6 +22,7 @@ use Rattle.rwsem_slow.specs.Queued.{Becomes, HasTaken, HasTriedAt, IsInLine, IsL
 use Rattle.rwsem_wake.specs.Removals.{KnowsList}
 use Rattle.rwsem_wake.specs.RwSemViews.{V, leaves_wake, list_of, parted, parted_wake, sem_of, with_list, with_sem, with_wake}
 use Rattle.rwsem_slow.specs.RwSems.{wait_state_of}
+use Rattle.rwsem_slow.specs.Types.{Hand, Alone, Leave, ListHand, Waiter, Fail, Mark, Take, SemWake, SemHand, Rest, Marking, Took, Removed, Summing, Wait, Writes}
 use Rattle.wait_list.proofs.Joining.{holds-one}
 use Rattle.rwsem_slow.proofs.Joining.{code-waits}
 use Rattle.rwsem_wake.proofs.Walking.{finds-next}

@@ -7,3 +7,4 @@ pub mod RwSem
 pub mod Sleep
 pub mod RwSemList
 pub mod CountHosting
+pub mod RwSemLock

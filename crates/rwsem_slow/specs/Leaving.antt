@@ -1,18 +1,12 @@
 -- Where a pass stands that leaves the list before it holds.
 use Rattle.std.specs.Prelude.{◌≡◌, ℕ, ◌≤◌, ◌⊎◌, ◌++◌, Bool, true, false, List, if◌then◌else◌}
 use Rattle.lock_core.specs.Shown.{Shown}
-use Rattle.wait_list.specs.declared.view.Waiter.{Waiter}
 use Rattle.rwsem_wake.specs.Batches.{starts_with_reader}
-use Rattle.rwsem_wake.specs.declared.view.SemHand.{SemHand}
-use Rattle.rwsem_wake.specs.declared.view.Stage.TheVariants.{Rest, Armed, Emptied, Summing}
-use Rattle.rwsem_wake.specs.declared.view.Wait.TheVariants.{Reads, Writes}
 use Rattle.rwsem_wake.specs.SemParts.{apart_hand}
-use Rattle.wake_duty.specs.declared.view.WaitState.TheVariants.{Absent}
-use Rattle.rwsem_wake.specs.declared.duty.SemWake.{SemWake}
 use Rattle.rwsem_wake.specs.RwSemViews.{V}
 use Rattle.rwsem_slow.specs.Queued.{IsInLine, IsListed, waiting}
+use Rattle.rwsem_slow.specs.Types.{Waiter, SemHand, Rest, Armed, Emptied, Summing, Reads, Writes, Absent, SemWake, Any}
 use Rattle.rwsem_wake.specs.RwSemWakes.{SawWriter, woken_of}
-use Rattle.rwsem_wake.specs.declared.wake.WakeType.TheVariants.{Any}
 
 -- a reader that waits has seen under the wait lock that it isn't granted
 abbrev pub ungranted : SemHand

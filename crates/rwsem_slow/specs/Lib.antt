@@ -1,9 +1,9 @@
+pub mod Types
 pub mod RwSemHandles
 pub mod RwSemStated
 pub mod RwSemStanding
 pub mod Picking
 pub mod RwSemLocks
-pub mod RwSemLockLaws
 pub mod Releasing
 pub mod Queued
 pub mod SleepCounting

@@ -2,16 +2,13 @@
 use Rattle.std.specs.Prelude.{◌≡◌, ◌≢◌, ℕ, ◌≤◌, ◌⊎◌, true, List, ◌∷◌, Some, None}
 use mathlib.Core.Option.{some}
 use lib.ListN.{get_elem?}
-use Rattle.lock_core.specs.declared.view.Hand.{Hand}
-use Rattle.lock_core.specs.declared.view.Held.TheVariants.{No}
-use Rattle.lock_core.specs.declared.view.Moment.{Moment}
 use Rattle.lock_core.specs.Totals.{total}
-use Rattle.wait_list.specs.declared.view.Waiter.{Waiter}
 use Rattle.rwsem_wake.specs.GrantsStated.{readers}
 use Rattle.rwsem_wake.specs.Duties.{kept_of}
 use Rattle.rwsem_wake.specs.SemParts.{SemPart, alone_of, granted_of, reserve_of, transit_of}
 use Rattle.rwsem_slow.specs.RwSems.{grants_in}
 use Rattle.rwsem_slow.specs.RwSemStated.{HasWaitLock, IsBeingWoken, SomebodyOwes}
+use Rattle.rwsem_slow.specs.Types.{Hand, No, Moment, Waiter}
 
 -- a reader's bias is in transit: its task, which holds nothing, is to keep it or to take it back
 abbrev pub HasTransit : Moment → List SemPart → Type 0

@@ -1,6 +1,6 @@
 -- Whom a waker has picked that removes one waiter after another.
 use Rattle.std.specs.Prelude.{◌≡◌, ℕ, ◌+◌, ◌<◌, ◌≤◌, List, [], ◌∷◌, ◌++◌, length}
-use Rattle.wait_list.specs.declared.view.Waiter.{Waiter}
+use Rattle.rwsem_slow.specs.Types.{Waiter}
 use Rattle.wait_list.specs.Lists.{IsList, first_code, without}
 use Rattle.rwsem_wake.specs.Batches.{batch_of}
 use Rattle.rwsem_wake.specs.SemParts.{IsWhole}

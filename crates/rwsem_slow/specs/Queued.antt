@@ -1,28 +1,18 @@
 -- Where a pass stands that queues on a semaphore.
 use Rattle.std.specs.Prelude.{◌≡◌, ℕ, ◌+◌, ◌<◌, ◌≤◌, ◌⊎◌, Bool, true, false, List, []}
-use Rattle.word_bits.specs.declared.entry.Entry.{Entry}
 use Rattle.word_bits.specs.Objects.{Obj}
 use Rattle.word_bits.specs.Histories.{Plan}
-use Rattle.lock_core.specs.declared.how.How.{How}
-use Rattle.lock_core.specs.declared.how.How.TheVariants.{Fast, Spun, Slept}
-use Rattle.lock_core.specs.declared.view.Held.TheVariants.{Shared, Alone}
 use Rattle.lock_core.specs.Holding.{Learns}
 use Rattle.lock_core.specs.Signals.{OnlyHeard}
 use Rattle.lock_core.specs.Views.{took}
-use Rattle.rwsem_count.specs.declared.view.Bias.TheVariants.{Transit}
 use Rattle.rwsem_count.specs.CountWordSteps.{HasHandoff, IsLocked}
-use Rattle.rwsem_wake.specs.declared.view.SemHand.{SemHand}
-use Rattle.rwsem_wake.specs.declared.view.Stage.TheVariants.{Took, Summing}
-use Rattle.rwsem_wake.specs.declared.view.Wait.{Wait}
-use Rattle.rwsem_wake.specs.declared.view.Wait.TheVariants.{Writes}
 use Rattle.rwsem_wake.specs.SemParts.{apart_hand}
-use Rattle.wake_duty.specs.declared.view.WaitState.TheVariants.{Awake}
 use Rattle.wake_duty.specs.DutyWakes.{waits}
 use Rattle.wake_duty.specs.WakeSteps.{HasTried}
-use Rattle.rwsem_wake.specs.declared.duty.SemWake.{SemWake}
 use Rattle.rwsem_wake.specs.Duties.{is_left}
 use Rattle.rwsem_wake.specs.RwSemViews.{V, IsDone}
 use Rattle.rwsem_slow.specs.RwSems.{after_swap, wait_state_of}
+use Rattle.rwsem_slow.specs.Types.{Entry, How, Fast, Spun, Slept, Shared, Alone, Transit, SemHand, Took, Summing, Wait, Writes, Awake, SemWake}
 use Rattle.rwsem_wake.specs.Removals.{KnowsList}
 
 -- its task waits so, has no bias in the count, and is about nothing

@@ -1,6 +1,6 @@
 -- How a call on a semaphore ends a hold, or lowers it.
 use Rattle.std.specs.Prelude.{◌≡◌, ℕ, ◌+◌, ◌<◌, ◌≤◌}
-use Rattle.lock_core.specs.declared.view.Held.{Held}
+use Rattle.rwsem_slow.specs.Types.{Held}
 use Rattle.lock_core.specs.Shown.{Shown, FindsAtStep, LeavesHold}
 use Rattle.rwsem_wake.specs.RwSemViews.{V, count_at}
 

@@ -2,20 +2,17 @@
 use Rattle.std.specs.Prelude.{◌≡◌, ℕ, List}
 use Rattle.word_bits.specs.Histories.{Plan}
 use Rattle.word_bits.specs.Objects.{Obj}
-use Rattle.lock_core.specs.declared.view.Hand.{Hand}
-use Rattle.lock_core.specs.declared.view.Held.TheVariants.{Shared, Alone}
 use Rattle.lock_core.specs.Locking.{Takes}
-use Rattle.lock_core.specs.declared.view.Moment.{Moment}
 use Rattle.lock_core.specs.SiteHandles as inner
 use Rattle.lock_core.specs.Pasts.{opening}
 use Rattle.lock_core.specs.Shown as callers
 use Rattle.lock_core.specs.Shown.{Shown, shown}
 use Rattle.lock_core.specs.Views.{SpinRests}
-use Rattle.osq_nodes.specs.declared.node.Place.TheVariants.{Out}
 use Rattle.osq_nodes.specs.OsqHandles as queue
 use Rattle.rwsem_slow.specs.declared.calls.RwSem.{RwSem}
 use Rattle.rwsem_slow.specs.declared.calls.RwPass.{RwPass}
 use Rattle.rwsem_slow.specs.RwSems.{idle, standing}
+use Rattle.rwsem_slow.specs.Types.{Hand, Shared, Alone, Moment, Out}
 use Rattle.rwsem_wake.specs.RwSemPlaces.{AreCounts, IsOutside, line_of}
 
 -- a new table of this plan

@@ -8,8 +8,8 @@ use Rattle.lock_core.specs.SpinStated.{IsSpinLockThen, IsSpinMove}
 use Rattle.rwsem_slow.specs.RwSemHandles.{newest}
 use Rattle.rwsem_slow.specs.RwSems.{standing, wait_lock_at}
 use Rattle.rwsem_slow.specs.RwSemStated.{HasBecome, IsOutOfLine, IsRwSemThen}
+use Rattle.rwsem_slow.specs.Types.{Waiter}
 use Rattle.rwsem_wake.specs.SemParts.{SemPart}
-use Rattle.wait_list.specs.declared.view.Waiter.{Waiter}
 
 -- What a pass knows that has looked back. At each moment so far the count stated whether a task wrote, which tasks read, whose biases were in it, and whether tasks waited. A handoff was asked for
 -- where the first waiter was marked. The pass knows which tasks wait now, first to last, and as what, and how each pass stands. This list, the marks, the grant words and the count have come to be by

@@ -1,15 +1,11 @@
 -- What count the step found by which a call on a semaphore came to hold.
 use Rattle.std.specs.Prelude.{◌≡◌, ℕ, ◌+◌, ◌<◌, ◌≤◌, List}
-use Rattle.lock_core.specs.declared.how.How.{How}
-use Rattle.lock_core.specs.declared.how.How.TheVariants.{Fast, Spun, Slept}
-use Rattle.lock_core.specs.declared.view.Held.{Held}
-use Rattle.lock_core.specs.declared.view.Held.TheVariants.{Shared, Alone}
-use Rattle.lock_core.specs.declared.view.Moment.{Moment}
 use Rattle.lock_core.specs.Pasts.{FoundAt}
 use Rattle.lock_core.specs.Shown.{Shown, FindsAtStep}
 use Rattle.rwsem_count.specs.CountWordSteps.{IsLocked, IsReadFree}
 use Rattle.rwsem_wake.specs.RwSemViews.{count_at}
 use Rattle.rwsem_slow.specs.Spinning.{IsUnlocked}
+use Rattle.rwsem_slow.specs.Types.{How, Fast, Spun, Slept, Held, Shared, Alone, Moment}
 
 -- a step of the call found a count that fits, and left the pass with this hold
 abbrev pub TakesFrom : Held → (ℕ → Type 0) → Shown → Shown → Type 0

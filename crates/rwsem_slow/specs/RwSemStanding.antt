@@ -1,9 +1,9 @@
 -- How a pass stands between two calls of its task.
 use Rattle.std.specs.Prelude.{◌≡◌, IsSome}
-use Rattle.lock_core.specs.declared.view.Held.TheVariants.{No}
 use Rattle.rwsem_slow.specs.declared.calls.RwSem.{RwSem}
 use Rattle.rwsem_slow.specs.declared.calls.RwPass.{RwPass}
 use Rattle.rwsem_slow.specs.RwSemHandles.{hand_in, SitsAt}
+use Rattle.rwsem_slow.specs.Types.{No}
 
 module _ {O C : Type 0} where
   -- it has a task's number, and holds nothing

@@ -6,27 +6,14 @@ use Rattle.word_bits.specs.declared.TheConstants.{MAX_TASKS}
 use Rattle.word_bits.specs.LockWords.{counted as shut}
 use Rattle.word_bits.specs.Objects.{Obj}
 use Rattle.word_bits.specs.Histories.{Plan}
-use Rattle.lock_core.specs.declared.view.Hand.{Hand}
-use Rattle.lock_core.specs.declared.view.SpinHand.{SpinHand}
-use Rattle.lock_core.specs.declared.view.Marks.{Marks}
-use Rattle.lock_core.specs.declared.view.Moment.{Moment}
-use Rattle.lock_core.specs.declared.view.Held.TheVariants.{No}
 use Rattle.lock_core.specs.Locked.{HasPass, IsSiteStep, IsWaitLockFree}
 use Rattle.lock_core.specs.Shown.{IsLatestStep, Shown}
 use Rattle.lock_core.specs.Spins.{holds_in}
 use Rattle.lock_core.specs.SiteStated.{IsSiteThen}
 use Rattle.lock_core.specs.Totals.{total}
-use Rattle.wait_list.specs.declared.view.Waiter.{Waiter}
-use Rattle.wait_list.specs.declared.view.Change.{Change}
-use Rattle.wait_list.specs.declared.view.Change.TheVariants.{Stay, Enter, Leave}
 use Rattle.wait_list.specs.Lists.{Allowed, IsList, Lists, changed, counted}
-use Rattle.wake_duty.specs.declared.view.WaitState.TheVariants.{Awake}
 use Rattle.wake_duty.specs.DutyWakes.{wake_word}
-use Rattle.rwsem_wake.specs.declared.duty.SemWake.{SemWake}
 use Rattle.rwsem_wake.specs.SemDuties.{times}
-use Rattle.rwsem_count.specs.declared.view.Bias.TheVariants.{Clear}
-use Rattle.rwsem_wake.specs.declared.view.SemHand.{SemHand}
-use Rattle.rwsem_wake.specs.declared.view.Wait.TheVariants.{Apart}
 use Rattle.rwsem_wake.specs.SemParts.{SemPart, alone_of, apart_hand, busy_of, granted_of, reserve_of, rest_of, transit_of}
 use Rattle.rwsem_wake.specs.Duties.{kept_of, overdue_of}
 use Rattle.rwsem_wake.specs.GrantSemaphores.{Quiet}
@@ -35,6 +22,7 @@ use Rattle.rwsem_wake.specs.GrantsStated.{OnlyFirst, Picks, StatesCount, StatesW
 use Rattle.rwsem_slow.specs.WakesGo.{WakesGo, wake_stands}
 use Rattle.rwsem_wake.specs.RwSemViews.{IsDone, count_at}
 use Rattle.rwsem_slow.specs.RwSems.{KeepsCount, count_in, entered, grants_in, list_words, marks_in, numbers_of, wake_words}
+use Rattle.rwsem_slow.specs.Types.{Hand, SpinHand, Marks, Moment, No, Waiter, Change, Stay, Enter, Leave, Awake, SemWake, Clear, SemHand, Apart}
 
 -- what a moment keeps of a pass that stands so, has appended itself so often, and has this of wakes
 abbrev pub stance : SemHand → ℕ → SemWake → Marks

@@ -5,9 +5,8 @@ use lib.ListN.{get_elem?}
 use Rattle.word_bits.specs.LockWords.{counted}
 use Rattle.word_bits.specs.Objects.{Obj}
 use Rattle.word_bits.specs.Histories.{Plan}
-use Rattle.lock_core.specs.declared.view.Hand.{Hand}
-use Rattle.lock_core.specs.declared.view.Held.{Held}
-use Rattle.lock_core.specs.declared.view.Held.TheVariants.{No, Shared, Alone}
+use Rattle.rwsem_slow.specs.Types.{Hand, Held, No, Shared, Alone, Waiter, Change, Stay, Enter, Leave, WaitState, Absent, SemWake, Bias, Clear, Transit, Reserve, SemHand, Wait, Apart, Reads}
+use Rattle.rwsem_slow.specs.Types.{Writes, Stage, Rest, Armed, Marking, Took, Summing, Granting, RwSemHand}
 use Rattle.lock_core.specs.declared.layout.TheConstants.{LOCK_WORDS, ROW_WORDS, SPIN_ROOM, SPIN_WORDS}
 use Rattle.lock_core.specs.Layout.{site, width, part}
 use Rattle.lock_core.specs.Views.{hand_of, held_weight, spin_part}
@@ -16,24 +15,11 @@ use Rattle.lock_core.specs.Moves.{SiteMove}
 use Rattle.lock_core.specs.Spins.{SpinKept, SpinMoves, holds_in}
 use Rattle.lock_core.specs.ViewParts.{Each}
 use Rattle.lock_core.specs.Records.{bit}
-use Rattle.wait_list.specs.declared.view.Waiter.{Waiter}
-use Rattle.wait_list.specs.declared.view.Change.{Change}
-use Rattle.wait_list.specs.declared.view.Change.TheVariants.{Stay, Enter, Leave}
 use Rattle.wait_list.specs.declared.words.TheConstants.{LIST_WORDS}
 use Rattle.wait_list.specs.Lists.{ListKept, ListMoves, list_part, no_list, first_code}
-use Rattle.wake_duty.specs.declared.view.WaitState.{WaitState}
-use Rattle.wake_duty.specs.declared.view.WaitState.TheVariants.{Absent}
 use Rattle.wake_duty.specs.DutyWakes.{WAKE_WORDS, waits}
-use Rattle.rwsem_wake.specs.declared.duty.SemWake.{SemWake}
 use Rattle.rwsem_wake.specs.SemDuties.{DutyPart, DutyKept, no_wake, drowsing}
-use Rattle.rwsem_count.specs.declared.view.Bias.{Bias}
-use Rattle.rwsem_count.specs.declared.view.Bias.TheVariants.{Clear, Transit, Reserve}
 use Rattle.rwsem_count.specs.Counts.{CountPart, early_weight, late_weight, shared_weight}
-use Rattle.rwsem_wake.specs.declared.view.SemHand.{SemHand}
-use Rattle.rwsem_wake.specs.declared.view.Wait.{Wait}
-use Rattle.rwsem_wake.specs.declared.view.Wait.TheVariants.{Apart, Reads, Writes}
-use Rattle.rwsem_wake.specs.declared.view.Stage.{Stage}
-use Rattle.rwsem_wake.specs.declared.view.Stage.TheVariants.{Rest, Armed, Marking, Took, Summing, Granting}
 use Rattle.rwsem_wake.specs.SemParts.{apart_hand, busy_weight, reserve_weight, transit_weight}
 use Rattle.rwsem_wake.specs.GrantSemaphores.{SemKept, more_of}
 use Rattle.rwsem_wake.specs.Handoffs.{KeepsHandoff}
@@ -42,7 +28,6 @@ use Rattle.rwsem_wake.specs.Lines.{lines_in}
 use Rattle.rwsem_wake.specs.Duties.{StageOk, duty_of, is_left}
 use Rattle.rwsem_slow.specs.WakesGo.{WakesGo, awake_bit, wake_stands}
 use Rattle.rwsem_wake.specs.RwSemViews.{V, IsDone, LeavesPicked, count_at, list_at, list_of, seen, with_wake}
-use Rattle.rwsem_wake.specs.declared.view.RwSemHand.{RwSemHand}
 
 abbrev pub idle : RwSemHand
 idle = record { list = no_list; sem = apart_hand; appends = 0; wake = no_wake }

@@ -1,8 +1,7 @@
 -- What a call on a semaphore counts on its CPU.
 use Rattle.std.specs.Prelude.{◌≡◌, ℕ, ◌+◌, ◌≤◌}
 use Rattle.cpu_task.specs.CpuCounting.{SleepsAtMost, SleepsInTurns}
-use Rattle.lock_core.specs.declared.how.How.{How}
-use Rattle.lock_core.specs.declared.how.How.TheVariants.{Fast, Spun, Slept}
+use Rattle.rwsem_slow.specs.Types.{How, Fast, Spun, Slept}
 use Rattle.lock_core.specs.Shown.{Shown}
 
 -- the CPU slept once for each step of the pass at most

@@ -3,7 +3,6 @@ use Rattle.std.specs.Prelude.{◌≡◌, ◌≢◌, ℕ, ◌+◌, ◌/◌, ◌%�
 use Rattle.atomic_table.specs.Table.{Step}
 use Rattle.word_bits.specs.LockWords.{IsLawfulCount}
 use Rattle.word_bits.specs.Objects.{Obj}
-use Rattle.lock_core.specs.declared.view.Held.TheVariants.{Alone}
 use Rattle.lock_core.specs.Holding.{missed}
 use Rattle.lock_core.specs.Kinds.{semaphore}
 use Rattle.lock_core.specs.Locking.{Sees}
@@ -12,9 +11,9 @@ use Rattle.lock_core.specs.Shown.{Shown}
 use Rattle.lock_core.specs.Views.{handed, ticked}
 use Rattle.rwsem_count.specs.CountPlays.{Gets}
 use Rattle.rwsem_count.specs.CountTries.{MissesCount, at_step}
-use Rattle.rwsem_wake.specs.declared.view.RwSemHand.{RwSemHand}
 use Rattle.rwsem_wake.specs.RwSemViews.{V, count_at}
 use Rattle.rwsem_slow.specs.RwSems.{biased}
+use Rattle.rwsem_slow.specs.Types.{Alone, RwSemHand}
 
 -- nobody holds, and no handoff is asked for: a writer may take this count without a place in the list
 abbrev pub IsUnlocked : ℕ → Type 0

@@ -1,17 +1,12 @@
 -- How a reader comes to hold by the bias that its first addition left in the count, though tasks wait.
 use Rattle.std.specs.Prelude.{◌≡◌, ℕ, ◌+◌, ◌/◌, ◌%◌, ◌^◌, ◌<◌, ◌⊎◌}
 use Rattle.word_bits.specs.Objects.{Obj}
-use Rattle.lock_core.specs.declared.how.How.{How}
-use Rattle.lock_core.specs.declared.how.How.TheVariants.{Fast, Spun, Slept}
-use Rattle.lock_core.specs.declared.view.Held.TheVariants.{Shared}
+use Rattle.rwsem_slow.specs.Types.{How, Fast, Spun, Slept, Shared, Bias, Clear, Transit, Reserve, RwSemHand}
 use Rattle.lock_core.specs.Kinds.{lets_in, semaphore}
 use Rattle.lock_core.specs.SitePlays.{Sat, Turns}
 use Rattle.lock_core.specs.Shown.{LeavesHold, Shown}
 use Rattle.lock_core.specs.Views.{ticked}
-use Rattle.rwsem_count.specs.declared.view.Bias.{Bias}
-use Rattle.rwsem_count.specs.declared.view.Bias.TheVariants.{Clear, Transit, Reserve}
 use Rattle.rwsem_wake.specs.GrantQueues.{GetsSem}
-use Rattle.rwsem_wake.specs.declared.view.RwSemHand.{RwSemHand}
 use Rattle.rwsem_wake.specs.RwSemViews.{with_sem, with_wake}
 
 -- the count that the addition of a bias left

@@ -1,18 +1,15 @@
 -- Whom a call on a semaphore wakes, by the wake words that it sets.
 use Rattle.std.specs.Prelude.{◌≡◌, ◌≢◌, ℕ, ◌+◌, ◌*◌, ◌/◌, ◌<◌, ◌≤◌, ◌%◌, ◌^◌, ◌⊎◌, Bool, true, false, List, [], length, Some}
 use Rattle.cpu_task.specs.CpuCounting.{slept}
-use Rattle.lock_core.specs.declared.view.Held.{Held}
 use Rattle.lock_core.specs.Shown.{Shown, FindsAtStep, FindsSince}
 use Rattle.lock_core.specs.Records.{bit}
-use Rattle.wait_list.specs.declared.view.Waiter.{Waiter}
 use Rattle.wait_list.specs.Lists.{first_code, without}
 use Rattle.rwsem_wake.specs.Batches.{starts_with_reader}
-use Rattle.rwsem_wake.specs.declared.wake.WakeType.{WakeType}
-use Rattle.rwsem_wake.specs.declared.wake.WakeType.TheVariants.{ReadOwned}
 use Rattle.rwsem_wake.specs.RwSemViews.{count_at, list_at}
 use Rattle.rwsem_wake.specs.RwSemWakes.{SawWriter, kind_at, woken_of}
 use Rattle.rwsem_slow.specs.Leaving.{WakesOn}
 use Rattle.rwsem_slow.specs.Releasing.{TurnsHold}
+use Rattle.rwsem_slow.specs.Types.{Held, Waiter, WakeType, ReadOwned}
 
 -- These are the tasks that a wake of this kind wakes of a list. A step since found the code of that list's first waiter. Where a reader is first and the wake reserves a bias of its own, its look at
 -- the count said whether there was a writer.

@@ -1,6 +1,5 @@
 //! Semaphores, their passes, and their calls.
 ghost use Rattle.std.specs.Prelude.{◌≡◌, ◌<◌, List, [], ◌∷◌, length, Some, None, IsSome, IfOk};
-ghost use Rattle.lock_core.specs.declared.view.Held.TheVariants.{No};
 ghost use Rattle.lock_core.specs.Kinds.{semaphore, unavailable};
 ghost use Rattle.lock_core.specs.Pasts.{EachMoment, GoesOn, Paced, Ran, Tail};
 ghost use Rattle.lock_core.specs.Locking.{Looks, Has};
@@ -12,6 +11,7 @@ ghost use Rattle.lock_core.specs.SpinStated.{IsSpinLockThen, IsSpinMove};
 ghost use Rattle.lock_core.specs.SiteStated.{IsNew};
 ghost use Rattle.lock_core.specs.Views.{gathered, gave_up};
 ghost use Rattle.osq_nodes.specs.OsqHandles.{tasks_of};
+ghost use Rattle.osq_nodes.specs.OsqRuled.{newest as newest_queue};
 ghost use Rattle.lock_core.specs.SiteHandles as inner;
 ghost use Rattle.lock_core.specs.Linear.{IsLinearizable};
 ghost use Rattle.wait_list.specs.declared.view.Waiter.{Waiter as Waiters};
@@ -19,6 +19,7 @@ ghost use Rattle.rwsem_wake.specs.SemParts.{SemPart};
 ghost use Rattle.rwsem_wake.specs.RwSemViews.{count_at};
 ghost use Rattle.rwsem_slow.specs.RwSems.{standing, wait_lock_at};
 ghost use Rattle.rwsem_slow.specs.RwSemStated.{HasBecome, IsOutOfLine, IsRwSemThen, MarksCounts, waits_on};
+ghost use Rattle.rwsem_slow.specs.Types.{No};
 
 use crate::SemRule;
 use lock_core::{Pass, Plan, Site, Tally};
@@ -82,7 +83,7 @@ impl<O: Object> RwPass<O> {
 }
 
 impl<O: Object> RwSem<O> {
-    ghost use Rattle.rwsem_slow.specs.RwSemHandles.{newest, plan_of, shown_of, hand_in, dozes_in, wakes_in, KeepsWakes, SitsAt, SpunGoesOn, StepsOn};
+    ghost use Rattle.rwsem_slow.specs.RwSemHandles.{newest, plan_of, shown_of, spun_of, hand_in, dozes_in, wakes_in, KeepsWakes, SitsAt, SpunGoesOn, StepsOn};
 
     /// A new semaphore: nobody holds, the state is empty, no call is logged or recorded. The pass
     /// has no task number.
@@ -93,6 +94,7 @@ impl<O: Object> RwSem<O> {
         ensures new { IfOk result (λ _. IsNew O.object O.WORDS plan (newest plan)) }
         ensures view { IfOk result (λ t.
             shown_of t.1 ≡ shown_new (Some plan) [] (newest plan ∷ [])) }
+        ensures unspun { IfOk result (λ t. spun_of t.1 ≡ newest_queue (length plan) ∷ []) }
         ensures fresh { IfOk result (λ t. (wakes_in t.1 ≡ 0) × (dozes_in t.1 ≡ 0)) }
     {
         let (site, pass) = Site::open(alloc, plan)?;
@@ -114,6 +116,7 @@ impl<O: Object> RwSem<O> {
         ensures its_own { SitsAt self.now result }
         ensures kept { Looks (shown_of pass.old) (shown_of pass.new) }
         ensures given { shown_of result ≡ shown_split (shown_of pass.old) }
+        ensures its_queue { spun_of result ≡ spun_of pass.old }
         ensures still { KeepsWakes pass.old pass.new }
         ensures fresh { (wakes_in result ≡ 0) × (dozes_in result ≡ 0) }
     {

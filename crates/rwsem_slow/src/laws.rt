@@ -1,12 +1,11 @@
 //! Laws of what a waker picks, and that no wake-up is lost. Each is the contract of a function that
 //! does nothing.
 ghost use Rattle.std.specs.Prelude.{List};
-ghost use Rattle.lock_core.specs.declared.view.Moment.{Moment};
-ghost use Rattle.wait_list.specs.declared.view.Waiter.{Waiter};
 ghost use Rattle.rwsem_wake.specs.SemParts.{SemPart};
 ghost use Rattle.rwsem_slow.specs.LostWakes.{LosesNoWake};
 ghost use Rattle.rwsem_slow.specs.RwSemStated.{IsQueued};
 ghost use Rattle.rwsem_slow.specs.Picking.{PicksBatchInTurn, PicksFirstReaders, PicksWholeBatch};
+ghost use Rattle.rwsem_slow.specs.Types.{Moment, Waiter};
 
 /// A waker that removes the first reader of the list again and again has removed the first readers
 /// of the list that it began with, in order.

@@ -1,6 +1,5 @@
 //! How a waiter that a signal interrupts leaves the list.
 ghost use Rattle.std.specs.Prelude.{◌≡◌, ◌≢◌, ◌+◌, ◌<◌, ◌≤◌, [], true, false, IsSome, Some, length};
-ghost use Rattle.lock_core.specs.declared.view.Held.TheVariants.{No};
 ghost use Rattle.lock_core.specs.SiteHandles.{plan_of, view_of, hand_in, task_in, held_in, SitsAt, KeepsPast, SaysSame, MovesOn};
 ghost use Rattle.lock_core.specs.Records.{bit};
 ghost use Rattle.lock_core.specs.Shown.{FindsSince};
@@ -15,6 +14,7 @@ ghost use Rattle.rwsem_wake.specs.RwSemPlaces.{AreCounts, IsOutside, dozes_of, s
 ghost use Rattle.rwsem_slow.specs.Queued.{Becomes, KeepsLine, LooksAt};
 ghost use Rattle.rwsem_wake.specs.RwSemWakes.{woken_tasks};
 ghost use Rattle.rwsem_slow.specs.Leaving.{HasLeft, IsUnmarked, MayLeave, WakesOn, gone_first};
+ghost use Rattle.rwsem_slow.specs.Types.{No};
 ghost use Rattle.rwsem_slow.specs.Waking.{WakesAsItLeft, WakesLeft};
 
 use crate::SemRule;

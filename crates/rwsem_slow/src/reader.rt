@@ -1,7 +1,5 @@
 //! The course of a reader whose addition didn't let it in at once: it steals, or queues and sleeps.
 ghost use Rattle.std.specs.Prelude.{◌≡◌, ◌+◌, true, IfErr, IfOk, IsSome};
-ghost use Rattle.lock_core.specs.declared.how.How.TheVariants.{Spun};
-ghost use Rattle.lock_core.specs.declared.view.Held.TheVariants.{No, Shared};
 ghost use Rattle.lock_core.specs.SiteHandles.{plan_of, view_of, task_in, held_in, SitsAt, MovesOn};
 ghost use Rattle.lock_core.specs.Locking.{SawPending, Takes};
 ghost use Rattle.lock_core.specs.Signals.{OnlyConsumed};
@@ -11,6 +9,7 @@ ghost use Rattle.rwsem_slow.specs.SleepCounting.{SleepsBetween};
 ghost use Rattle.rwsem_wake.specs.RwSemPlaces.{AreCounts, IsOutside, dozes_of, seen_of};
 ghost use Rattle.rwsem_slow.specs.Queued.{AppendedBy, EntersLock, IsInTransit};
 ghost use Rattle.rwsem_slow.specs.Stealing.{WentOn, left_by};
+ghost use Rattle.rwsem_slow.specs.Types.{Spun, No, Shared};
 
 use crate::SemRule;
 use cpu_task::{Cpu, Crew};

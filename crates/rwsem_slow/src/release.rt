@@ -1,12 +1,12 @@
 //! The ends of holds of a semaphore, and downgrades.
 ghost use Rattle.std.specs.Prelude.{◌≡◌, ◌↔◌, IsTrue, false, IsSome};
-ghost use Rattle.lock_core.specs.declared.view.Held.TheVariants.{No, Shared, Alone};
 ghost use Rattle.lock_core.specs.SiteHandles.{view_of, hand_in, task_in, held_in, SitsAt, MovesOn};
 ghost use Rattle.lock_core.specs.Kinds.{semaphore, wakes_alone, wakes_down, wakes_shared};
 ghost use Rattle.lock_core.specs.Locking.{Downgrades, Releases};
 ghost use Rattle.lock_core.specs.Views.{SpinRests};
 ghost use Rattle.rwsem_wake.specs.RwSemPlaces.{AreCounts, IsOutside, MayOwe, dozes_of, seen_of};
 ghost use Rattle.rwsem_slow.specs.Releasing.{LeavesCount, WentThrough};
+ghost use Rattle.rwsem_slow.specs.Types.{No, Shared, Alone};
 ghost use Rattle.rwsem_slow.specs.Waking.{WakesIf, WakesWaiting};
 ghost use Rattle.rwsem_wake.specs.RwSemWakes.{MayWake};
 

@@ -9,22 +9,25 @@ use std::sync::Wait;
 use word_bits::Object;
 
 impl<O: Object> SleepLock<O> for RwSem<O> {
-    ghost use Rattle.std.specs.Prelude.{◌≡◌, ◌+◌, refl};
-    ghost use Rattle.lock_core.specs.declared.view.Held.TheVariants.{No, Shared};
+    ghost use Rattle.std.specs.Prelude.{◌≡◌, ◌+◌, [], ◌∷◌, length, refl};
     ghost use Rattle.lock_core.specs.Kinds.{semaphore, wakes_alone, wakes_down, wakes_shared};
     ghost use Rattle.rwsem_slow.specs.RwSemHandles.{dozes_in, newest, spun_of};
     ghost use Rattle.rwsem_slow.specs.Releasing.{LeavesCount};
     ghost use Rattle.rwsem_wake.specs.RwSemViews.{count_at};
     ghost use Rattle.rwsem_slow.specs.RwSemStated.{MarksDozes, waits_on};
     ghost use Rattle.rwsem_slow.specs.RwSemLocks.{KnowsRwSem};
+    ghost use Rattle.osq_nodes.specs.OsqRuled.{newest as newest_queue};
     ghost use Rattle.osq_unqueue.specs.LockSpinQueues.{KnowsSpinQueue};
-    ghost use Rattle.rwsem_slow.specs.RwSemLockLaws.{rwsem-stands};
+    ghost use Rattle.rwsem_slow.specs.Laws.RwSemLock.{rwsem-stands};
+    ghost use Rattle.rwsem_slow.specs.Types.{No, Shared};
 
     ghost kind = { semaphore };
 
     ghost word_at = { count_at };
 
     ghost opened = { newest };
+
+    ghost opened_queue = { λ k. newest_queue (length k) ∷ [] };
 
     ghost waits = { waits_on };
 

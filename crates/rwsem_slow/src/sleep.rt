@@ -1,6 +1,5 @@
 //! How a waiter hears of signals, and falls asleep.
 ghost use Rattle.std.specs.Prelude.{◌≡◌, ◌<◌, true, IfSome, IsSome};
-ghost use Rattle.lock_core.specs.declared.view.Held.TheVariants.{No};
 ghost use Rattle.lock_core.specs.SiteHandles.{view_of, hand_in, task_in, held_in, SitsAt, KeepsPast, SaysSame, MovesOn};
 ghost use Rattle.lock_core.specs.Locking.{SawPending};
 ghost use Rattle.lock_core.specs.Signals.{HasHeard};
@@ -10,6 +9,7 @@ ghost use Rattle.rwsem_slow.specs.Queued.{Listens, Drowses};
 ghost use Rattle.cpu_task.specs.CpuCounting.{DozesOnce};
 ghost use Rattle.wake_duty.specs.WakeSteps.{HasTried};
 ghost use Rattle.rwsem_slow.specs.RwSems.{sleep_wait_state};
+ghost use Rattle.rwsem_slow.specs.Types.{No};
 
 use crate::SemRule;
 use cpu_task::Cpu;

@@ -1,7 +1,5 @@
 //! The course of a writer by way of the list: it queues, tries and sleeps.
 ghost use Rattle.std.specs.Prelude.{◌≡◌, ◌+◌, true, IfErr, IfOk, IsSome};
-ghost use Rattle.lock_core.specs.declared.how.How.TheVariants.{Slept};
-ghost use Rattle.lock_core.specs.declared.view.Held.TheVariants.{No, Alone};
 ghost use Rattle.lock_core.specs.SiteHandles.{plan_of, view_of, task_in, held_in, SitsAt, MovesOn};
 ghost use Rattle.lock_core.specs.Locking.{SawPending, Takes};
 ghost use Rattle.lock_core.specs.Signals.{OnlyConsumed};
@@ -10,6 +8,7 @@ ghost use Rattle.cpu_task.specs.CpuCounting.{Dozes, SleepsInTurns};
 ghost use Rattle.rwsem_slow.specs.RwSemOpening.{TakesOpen};
 ghost use Rattle.rwsem_wake.specs.RwSemPlaces.{AreCounts, IsOutside, dozes_of, seen_of};
 ghost use Rattle.rwsem_slow.specs.Queued.{AppendedBy, EntersLock};
+ghost use Rattle.rwsem_slow.specs.Types.{Slept, No, Alone};
 
 use crate::SemRule;
 use crate::leave::interrupt;

@@ -3,9 +3,9 @@ use Rattle.std.proofs.Common.{◌≡◌, ℕ, zero, suc, ◌+◌, ◌-◌, ◌*�
 use Rattle.std.proofs.lemmas.List.{drop_more, append-nil}
 use Rattle.std.proofs.Math.ListN.{drop_of_length-le}
 use Rattle.lock_core.proofs.RowLaws.{none-some, same-some}
-use Rattle.wait_list.specs.declared.view.Waiter.{Waiter}
 use Rattle.rwsem_wake.specs.Batches.{reads, task_of, starts_with_reader, batch_of, without_readers, list_after, SharesOut}
 use Rattle.rwsem_wake.specs.SemParts.{reader_at, writer_at, reader_bit, here}
+use Rattle.rwsem_wake.specs.Types.{Waiter}
 use Rattle.lock_core.specs.Records.{bit}
 use Rattle.lock_core.specs.Totals.{total}
 

@@ -4,15 +4,12 @@ use mathlib.Core.Option.{some}
 use lib.ListN.{get_elem?}
 use lib.Seq.{map-set}
 use Rattle.atomic_table.proofs.Lists.{at_map}
-use Rattle.lock_core.specs.declared.view.Held.{Held}
-use Rattle.lock_core.specs.declared.view.Held.TheVariants.{No, Shared, Alone}
 use Rattle.lock_core.specs.Views.{alone_weight}
 use Rattle.lock_core.specs.Totals.{total, total-at}
-use Rattle.rwsem_count.specs.declared.view.Bias.{Bias}
-use Rattle.rwsem_count.specs.declared.view.Bias.TheVariants.{Clear, Transit, Reserve}
 use Rattle.rwsem_count.specs.Counts.{CountPart, CountKept, shared_weight, early_weight, late_weight, shared_in, early_in, late_in}
 use Rattle.rwsem_count.specs.Laws.Count.{Adds, part-adds}
 use Rattle.rwsem_wake.specs.SemParts.{SemPart, part_of}
+use Rattle.rwsem_wake.specs.Types.{Held, No, Shared, Alone, Bias, Clear, Transit, Reserve}
 use Rattle.rwsem_count.specs.Laws.Count as laws
 
 -- a sum over parts is a sum over the whole

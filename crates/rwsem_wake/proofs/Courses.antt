@@ -1,15 +1,11 @@
 -- What several steps make of a host's view.
 use Rattle.std.proofs.Common.{◌≡◌, ◌≢◌, ◌∙◌, ℕ, zero, suc, ◌+◌, ◌*◌, ◌/◌, ◌%◌, ◌==◌, ◌<◌, ◌≤◌, Bool, List, [], ◌∷◌, length, if◌then◌else◌, sym, refl, ap, subst, arith, eq-eqb, ne_eqb}
-use Rattle.lock_core.specs.declared.view.View.{View}
 use Rattle.lock_core.specs.Records.{bit}
-use Rattle.wait_list.specs.declared.view.Waiter.{Waiter}
-use Rattle.wait_list.specs.declared.view.ListHand.{ListHand}
 use Rattle.wait_list.specs.Lists.{list_part}
 use Rattle.rwsem_count.specs.Counts.{early_weight}
-use Rattle.rwsem_wake.specs.declared.view.SemHand.{SemHand}
-use Rattle.rwsem_wake.specs.declared.view.Stage.TheVariants.{Counted, Granting}
 use Rattle.rwsem_wake.specs.SemParts.{some_of}
 use Rattle.rwsem_wake.specs.Grants.{IsGranting, granting_on, still_granting, TurnsTo, OnlySem, gains, losses, looked, counted}
+use Rattle.rwsem_wake.specs.Types.{View, Waiter, ListHand, SemHand, Counted, Granting}
 
 -- a batch that isn't empty is to be granted
 pub goes-granting : (batch : List ℕ) → 0 < length batch → Granting ≡ granting_on batch

@@ -10,21 +10,14 @@ use Rattle.lock_core.specs.Totals.{total, total-set, total-at}
 use Rattle.lock_core.specs.ViewParts.{Each, at_unmap}
 use Rattle.lock_core.proofs.HandLaws.{false-or-true, not-both}
 use Rattle.lock_core.proofs.RowLaws.{none-some, same-some}
-use Rattle.wait_list.specs.declared.view.Waiter.{Waiter}
-use Rattle.wake_duty.specs.declared.view.WaitState.TheVariants.{Absent}
 use Rattle.wake_duty.specs.DutyWakes.{awake, after_failed_try}
-use Rattle.rwsem_wake.specs.declared.duty.SemWake.{SemWake}
 use Rattle.rwsem_wake.specs.SemDuties.{DutyPart, DutyKept, PartOk, alone_of as alone_in_duty, late_of as late_in_duty, owes, answers, attends, chose, wakes_it, times, where_so, recounted, with_wait_state, leaving}
 use Rattle.rwsem_wake.specs.Laws.SemDuty.{duty-guards, duty-pays, duty-reserves-late, duty-takes-back, duty-owes, duty-returns, duty-writes, duty-hears, duty-waits, duty-fails, duty-unwaited, duty-grants}
-use Rattle.rwsem_count.specs.declared.view.Bias.{Bias}
-use Rattle.rwsem_count.specs.declared.view.Bias.TheVariants.{Clear, Transit, Reserve}
 use Rattle.rwsem_count.specs.Counts.{early_weight, late_weight, alone_in, shared_in, early_in, late_in}
-use Rattle.rwsem_wake.specs.declared.view.Wait.{Wait}
-use Rattle.rwsem_wake.specs.declared.view.Wait.TheVariants.{Apart, Reads, Writes}
-use Rattle.rwsem_wake.specs.declared.view.Stage.{Stage}
 use Rattle.rwsem_wake.specs.SemParts.{SemPart, alone_of, busy_of, granted_of, granted_weight, granting_of, granting_weight, is_zero, part_of, reserve_weight, shared_of, writes_weight}
 use Rattle.rwsem_wake.specs.GrantSemaphores.{SemKept, SemPartOk, more_of}
 use Rattle.rwsem_wake.specs.Duties.{kept_weight, overdue_weight, kept_of, overdue_of, guards_of, writes_of, duty_of, SameGrants, IsOnly, Keeps, ReservesBias, ReturnsLate, ReturnsOwn, TakesAlone, HearsGrant, FailsWaiting, LeavesEmpty, GrantsTask, WakeGoes, is_left}
+use Rattle.rwsem_wake.specs.Types.{Waiter, Absent, SemWake, Bias, Clear, Transit, Reserve, Wait, Apart, Reads, Writes, Stage}
 
 -- a bias is counted once
 bias-once : (b : Bias) → early_weight b + late_weight b ≡ kept_weight b + overdue_weight b

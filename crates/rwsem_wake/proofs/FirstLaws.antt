@@ -4,14 +4,10 @@ use mathlib.Core.Option.{some}
 use lib.ListN.{get_elem?}
 use Rattle.lock_core.specs.Totals.{total}
 use Rattle.lock_core.proofs.RowLaws.{same-some}
-use Rattle.wait_list.specs.declared.view.Waiter.{Waiter}
-use Rattle.rwsem_count.specs.declared.view.Bias.{Bias}
-use Rattle.rwsem_count.specs.declared.view.Bias.TheVariants.{Clear}
 use Rattle.rwsem_count.specs.Counts.{early_weight, late_weight}
-use Rattle.rwsem_wake.specs.declared.view.Stage.{Stage}
-use Rattle.rwsem_wake.specs.declared.view.Stage.TheVariants.{Rest, Armed, Removed, Summing}
 use Rattle.rwsem_wake.specs.SemParts.{SemPart, busy_of, busy_weight, early_of, late_of, reserve_of, reserve_weight, granting_of, granting_weight, some_of, marks_sum, first_mark, own_mark, tasks}
 use Rattle.rwsem_wake.specs.GrantSemaphores.{FlagsAt, Quiet, SemKept, batch_weight, load_of, more_of}
+use Rattle.rwsem_wake.specs.Types.{Waiter, Bias, Clear, Stage, Rest, Armed, Removed, Summing}
 use Rattle.rwsem_wake.proofs.Places.{first-least, mark-set, some-length}
 use Rattle.rwsem_wake.proofs.Sums.{busy-most}
 use Rattle.rwsem_wake.proofs.WakeLaws.{staged, held-most, ok-of, reserve-most, single-of, slim-of}

@@ -1,28 +1,19 @@
 -- What a wake comes to, from its look at the first waiter on.
 use Rattle.std.proofs.Common.{◌≡◌, ◌≢◌, ◌∙◌, ℕ, ◌≤◌, ◌⊎◌, ◌++◌, ◌&&◌, inl, inr, eq-eqb, Bool, true, false, List, [], ◌∷◌, map, filter, take, Option, Some, None, refl, sym, ap, subst, arith, if◌then◌else◌}
 use Rattle.std.proofs.lemmas.List.{append-nil}
-use Rattle.lock_core.specs.declared.pass.Pass.{Pass}
 use Rattle.lock_core.specs.SiteHandles.{view_of, Finds, KeepsPast}
 use Rattle.lock_core.specs.Pasts.{IsStepBy}
 use Rattle.lock_core.specs.Records.{bit}
-use Rattle.wait_list.specs.declared.view.Waiter.{Waiter}
-use Rattle.wait_list.specs.declared.view.ListHand.{ListHand}
 use Rattle.wait_list.specs.Lists.{FindsFirst, IsList, Knows, first_code, first_of, list_part, sighted, waiter_code}
-use Rattle.lock_core.specs.declared.view.Held.{Held}
-use Rattle.lock_core.specs.declared.view.Held.TheVariants.{No, Shared, Alone}
 use Rattle.lock_core.specs.Spins.{holds_in}
-use Rattle.rwsem_count.specs.declared.view.Bias.TheVariants.{Clear}
 use Rattle.rwsem_count.specs.Counts.{shared_weight}
-use Rattle.rwsem_wake.specs.declared.duty.SemWake.{SemWake}
 use Rattle.rwsem_wake.specs.Duties.{paid}
 use Rattle.rwsem_wake.specs.Batches.{reads, starts_with_reader, task_of}
-use Rattle.rwsem_wake.specs.declared.view.RwSemHand.{RwSemHand}
-use Rattle.rwsem_wake.specs.declared.wake.WakeType.{WakeType}
-use Rattle.rwsem_wake.specs.declared.wake.WakeType.TheVariants.{Any, Readers, ReadOwned}
 use Rattle.rwsem_wake.specs.RwSemViews.{V, chooses_task, has_number, is_clear, list_at, list_of, looked, looks_at, may_look, saw_first, with_list}
 use Rattle.rwsem_wake.specs.RwSemPlaces.{seen_of}
 use Rattle.rwsem_wake.specs.Removals.{KnowsList, without_all}
 use Rattle.rwsem_wake.specs.RwSemWakes.{Grants, HasChosenAll, IsAtRest, Looks, MayWake, SawWriter, Wakes, first_woken, readers_woken}
+use Rattle.rwsem_wake.specs.Types.{Pass, Waiter, ListHand, Held, No, Shared, Alone, Clear, SemWake, RwSemHand, WakeType, Any, Readers, ReadOwned}
 use Rattle.rwsem_wake.specs.declared.batches.TheConstants.{MAX_READERS_WAKEUP}
 
 -- the first of a list

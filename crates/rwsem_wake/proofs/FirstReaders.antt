@@ -2,10 +2,10 @@
 use Rattle.std.proofs.Common.{◌≡◌, ◌≢◌, ℕ, ◌+◌, ◌*◌, ◌≤◌, ◌==◌, inl, inr, Bool, true, false, List, [], ◌∷◌, refl, ap, ◌∙◌, arith, eq-eqb, ne_eqb, if◌then◌else◌}
 use Rattle.lock_core.specs.Records.{bit}
 use Rattle.lock_core.specs.Totals.{total}
-use Rattle.wait_list.specs.declared.view.Waiter.{Waiter}
 use Rattle.wait_list.specs.Lists.{counted, first_code, without}
 use Rattle.rwsem_wake.specs.SemParts.{reader_at, reader_bit, writer_at}
 use Rattle.rwsem_wake.specs.GrantsStated.{IsFirstReader, Without}
+use Rattle.rwsem_wake.specs.Types.{Waiter}
 
 -- waiters by task
 

@@ -2,26 +2,22 @@
 use Rattle.std.proofs.Common.{◌≡◌, ◌≢◌, ◌∙◌, ℕ, ◌+◌, ◌/◌, ◌%◌, ◌<◌, ◌≤◌, ◌==◌, ◌||◌, Bool, true, false, List, [], ◌∷◌, ◌++◌, length, Some, refl, sym, ap, subst, arith, inl, inr}
 use Rattle.std.proofs.lemmas.List.{append-nil}
 use Rattle.word_bits.specs.declared.TheConstants.{MAX_TASKS}
-use Rattle.lock_core.specs.declared.view.Moment.{Moment}
 use Rattle.lock_core.specs.Pasts.{FoundAt, GoesOn, IsOwnStep}
 use Rattle.lock_core.specs.Laws.SiteRun.{found-at-step}
 use Rattle.lock_core.specs.Records.{bit}
 use Rattle.lock_core.specs.Shown.{shown}
 use Rattle.lock_core.specs.Views.{ticked}
-use Rattle.wait_list.specs.declared.view.Waiter.{Waiter}
-use Rattle.wait_list.specs.declared.view.ListHand.{ListHand}
 use Rattle.wait_list.specs.Lists.{IsList, Knows, first_code, first_of}
-use Rattle.rwsem_count.specs.declared.view.Bias.TheVariants.{Reserve}
 use Rattle.rwsem_count.specs.Counts.{early_weight, late_weight, shared_weight}
 use Rattle.rwsem_wake.specs.Batches.{starts_with_reader}
 use Rattle.rwsem_wake.specs.Grants.{IsRemoved, KeepsOut, OnlySem, ChangesTo, reserved, unreserved}
 use Rattle.rwsem_wake.specs.Duties.{paid}
 use Rattle.rwsem_wake.specs.SemParts.{IsWhole, transit_weight}
-use Rattle.rwsem_wake.specs.declared.duty.SemWake.{SemWake}
 use Rattle.rwsem_wake.specs.RwSemViews.{V, MayPick, count_at, sem_of, with_sem, with_wake}
 use Rattle.rwsem_wake.specs.RwSemPlaces.{line_of}
 use Rattle.rwsem_wake.specs.Removals.{KnowsList, RemovesAll, without_all}
 use Rattle.rwsem_wake.specs.RwSemWakes.{Grants, IsAtRest, SawWriter, batch_in}
+use Rattle.rwsem_wake.specs.Types.{Moment, Waiter, ListHand, Reserve, SemWake}
 use Rattle.rwsem_wake.proofs.Removing.{batch-whole}
 
 pub or-false : (a b : Bool) → b ≡ false → (a || b) ≡ a

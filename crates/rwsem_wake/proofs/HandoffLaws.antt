@@ -3,16 +3,9 @@ use Rattle.std.proofs.Common.{◌≡◌, ℕ, ◌+◌, ◌*◌, ◌/◌, ◌%◌
 use mathlib.Core.Option.{some}
 use native.Mathlib.Decide.{ℕ_discrete}
 use lib.ListN.{get_elem?}
-use Rattle.lock_core.specs.declared.view.Held.TheVariants.{No, Alone}
 use Rattle.lock_core.specs.Records.{bit}
 use Rattle.lock_core.specs.Totals.{total, total-set, total-same, total-snoc}
 use Rattle.lock_core.proofs.RowLaws.{same-some}
-use Rattle.wait_list.specs.declared.view.Waiter.{Waiter}
-use Rattle.rwsem_wake.specs.declared.view.Wait.TheVariants.{Apart, Reads, Writes}
-use Rattle.rwsem_count.specs.declared.view.Bias.{Bias}
-use Rattle.rwsem_count.specs.declared.view.Bias.TheVariants.{Clear, Reserve}
-use Rattle.rwsem_wake.specs.declared.view.Stage.{Stage}
-use Rattle.rwsem_wake.specs.declared.view.Stage.TheVariants.{Rest, First, Marking, Took, Removed, Emptied, Overdue, Marked, Removing, Summing, Counted, Granting}
 use Rattle.rwsem_count.specs.Counts.{shared_weight, early_weight, late_weight, shared_in, early_in, late_in}
 use Rattle.rwsem_wake.specs.SemParts.{SemPart, named_weight, granting_weight, busy_weight, reads_weight, transit_weight, shared_of, holds_of, alone_of, early_of, late_of, reserve_of, reads_of, reads_at, writes_at, reader_at, writer_at, reader_of, busy_of, granting_of, granted_of, granted_at, is_zero, reader_bit, IsWhole, some_of, marks_sum, first_mark, tasks, own_mark}
 use Rattle.rwsem_wake.specs.GrantSemaphores.{batch_weight, Quiet, IsFirst, FlagsAt, load_of, SemKept, more_of}
@@ -22,6 +15,8 @@ use Rattle.rwsem_wake.proofs.Places.{total-without, length-without, some-length,
 use Rattle.rwsem_wake.proofs.WakeLaws.{staged, biased, batched, waiting, ok-of, slim-of, held-most, single-of, reserve-most, sem-moves, more-same}
 use Rattle.rwsem_wake.proofs.QueueLaws.{reads-w, reads-at-w, writes-at-w, granted-w, granted-at-w, reader, a_writer, joined-flags, fresh-flags, set-flags, sem-stages, same-count, mine-at}
 use Rattle.rwsem_wake.specs.GrantsStated.{Without}
+use Rattle.rwsem_wake.specs.Types.{No, Alone, Waiter, Apart, Reads, Writes, Bias, Clear, Reserve, Stage, Rest, First, Marking, Took, Removed, Emptied, Overdue, Marked, Removing, Summing}
+use Rattle.rwsem_wake.specs.Types.{Counted, Granting}
 
 -- the list without its first waiter, and without another
 first-left : (marks : List ℕ) (q q' : List Waiter) (w : Waiter) (s : Without q w q') → s.before ≡ [] → first_mark marks (tasks q) ≡ get_or marks w.task 0

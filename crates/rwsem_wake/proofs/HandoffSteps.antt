@@ -4,17 +4,9 @@ use mathlib.Core.Option.{some, some-injective}
 use mathlib.Core.Logic.{dite}
 use native.Mathlib.Decide.{ℕ_discrete}
 use lib.ListN.{get_elem?}
-use Rattle.lock_core.specs.declared.view.Held.{Held}
-use Rattle.lock_core.specs.declared.view.Held.TheVariants.{No, Shared}
 use Rattle.lock_core.specs.Totals.{total, total-set, total-same, total-at}
-use Rattle.wait_list.specs.declared.view.Waiter.{Waiter}
 use Rattle.wait_list.specs.Lists.{first_code}
-use Rattle.rwsem_count.specs.declared.view.Bias.{Bias}
-use Rattle.rwsem_count.specs.declared.view.Bias.TheVariants.{Clear}
 use Rattle.rwsem_count.specs.Counts.{shared_weight}
-use Rattle.rwsem_wake.specs.declared.view.Wait.TheVariants.{Apart, Reads}
-use Rattle.rwsem_wake.specs.declared.view.Stage.{Stage}
-use Rattle.rwsem_wake.specs.declared.view.Stage.TheVariants.{Marking, Counted, Granting}
 use Rattle.rwsem_wake.specs.SemParts.{SemPart, named_weight, granting_weight, is_zero, granted_at, reads_at, rest_at, here, first_mark, IsWhole, tasks, busy_of}
 use Rattle.rwsem_wake.specs.GrantSemaphores.{IsFirst, FlagsAt, SemKept}
 use Rattle.rwsem_wake.proofs.Sums.{mine-of, set-mine}
@@ -22,6 +14,7 @@ use Rattle.rwsem_wake.proofs.Places.{first-least, granted-all, grant-here, grant
 use Rattle.rwsem_wake.proofs.WakeLaws.{batched, biased, holding}
 use Rattle.rwsem_wake.proofs.QueueLaws.{granted-at-w}
 use Rattle.rwsem_wake.specs.Handoffs.{shared_at, granting_at, reads_as, BatchGoes, ComesToMark, ComesToRead, EndsReading, GrantsNext, KeepsHandoff, MarksNext, MayMark, MayRead, MaySetHandoff, MayUnmark, OfPass, KeepsFound, Unasked}
+use Rattle.rwsem_wake.specs.Types.{Held, No, Shared, Waiter, Bias, Clear, Apart, Reads, Stage, Marking, Counted, Granting}
 
 -- flag and marks stay
 pub unasked-same : (n : ℕ) (marks : List ℕ) → Unasked n marks n marks

@@ -3,12 +3,12 @@ use Rattle.std.proofs.Common.{◌≡◌, ℕ, List, refl, get_or, set, arith}
 use mathlib.Core.Option.{some}
 use lib.ListN.{get_elem?}
 use Rattle.atomic_table.specs.Table.{Me, keeps}
-use Rattle.lock_core.specs.declared.op.Op.TheVariants.{Load, Store}
 use Rattle.lock_core.specs.Moves.{Goes, Lets}
 use Rattle.lock_core.specs.SitePlays.{Turns}
 use Rattle.lock_core.specs.Stores.{HasWord}
 use Rattle.lock_core.specs.Views.{ticked}
 use Rattle.rwsem_wake.specs.RwSemViews.{V, hint_at}
+use Rattle.rwsem_wake.specs.Types.{Load, Store}
 
 pub hint-there : (tasks : ℕ) → HasWord tasks hint_at
 hint-there tasks = record { spin = λ _. omega arith; first = λ m. absurd (omega (arith, m)); second = λ m. absurd (omega (arith, m)); third = λ m. absurd (omega (arith, m)); fourth = λ m. absurd (omega (arith, m)) }

@@ -3,22 +3,13 @@ use Rattle.std.proofs.Common.{◌≡◌, ◌∙◌, ◌≤◌, ◌==◌, ℕ, Bo
 use Rattle.atomic_table.specs.Table.{Me}
 use Rattle.word_bits.specs.Objects.{Obj}
 use Rattle.word_bits.specs.Histories.{Plan}
-use Rattle.lock_core.specs.declared.view.View.{View}
-use Rattle.lock_core.specs.declared.view.Seen.{Seen}
-use Rattle.lock_core.specs.declared.view.Held.{Held}
-use Rattle.lock_core.specs.declared.view.Held.TheVariants.{No, Shared, Alone}
-use Rattle.lock_core.specs.declared.view.SpinHand.{SpinHand}
 use Rattle.lock_core.specs.SpinFrames.{holds_at}
 use Rattle.lock_core.specs.Spins.{holds_in}
 use Rattle.lock_core.specs.Views.{SpinHolds, held_weight}
 use Rattle.lock_core.specs.Pasts.{unseen}
-use Rattle.rwsem_wake.specs.declared.duty.SemWake.{SemWake}
-use Rattle.rwsem_wake.specs.declared.view.SemHand.{SemHand}
-use Rattle.rwsem_wake.specs.declared.view.Wait.TheVariants.{Apart}
-use Rattle.rwsem_wake.specs.declared.view.Stage.{Stage}
-use Rattle.rwsem_wake.specs.declared.view.Stage.TheVariants.{Rest}
 use Rattle.rwsem_wake.specs.SemParts.{busy_weight}
 use Rattle.rwsem_wake.specs.GrantQueues.{GetsSem, HoldsBy, heard}
+use Rattle.rwsem_wake.specs.Types.{View, Seen, Held, No, Shared, Alone, SpinHand, SemWake, SemHand, Apart, Stage, Rest}
 use Rattle.rwsem_wake.proofs.Sums.{busy-most}
 
 module _ {E Call : Type 0} (with_sem : E → SemHand → E) (with_wake : E → SemWake → E) (o : Obj Call) (k : Plan) (held : Held) (s : SemHand) (b : SemWake) where

@@ -1,13 +1,9 @@
 -- What a step says by the parts of a host's rule, said of the fields of what its passes know.
 use Rattle.std.proofs.Common.{◌≡◌, ℕ, Option, subst, ◌∙◌}
-use Rattle.wait_list.specs.declared.view.Waiter.{Waiter}
-use Rattle.wait_list.specs.declared.view.Change.{Change}
-use Rattle.wait_list.specs.declared.view.ListHand.{ListHand}
 use Rattle.wait_list.specs.Lists.{FindsFirst, FindsNext, Removes}
-use Rattle.rwsem_wake.specs.declared.view.RwSemHand.{RwSemHand}
-use Rattle.rwsem_wake.specs.declared.view.SemHand.{SemHand}
 use Rattle.rwsem_wake.specs.Grants.{OnlySem}
 use Rattle.rwsem_wake.specs.RwSemViews.{V, list_of, sem_of, with_list, with_sem}
+use Rattle.rwsem_wake.specs.Types.{Waiter, Change, ListHand, RwSemHand, SemHand}
 
 abbrev Lists : Type 0
 Lists = (RwSemHand → ListHand) × (Change → V → ListHand → RwSemHand)

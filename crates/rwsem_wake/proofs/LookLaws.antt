@@ -4,11 +4,9 @@ use mathlib.Core.Option.{some}
 use lib.ListN.{get_elem?}
 use Rattle.lock_core.specs.Records.{bit}
 use Rattle.lock_core.specs.Totals.{total, total-set}
-use Rattle.wait_list.specs.declared.view.Waiter.{Waiter}
-use Rattle.rwsem_count.specs.declared.view.Bias.TheVariants.{Clear}
-use Rattle.rwsem_wake.specs.declared.view.Stage.TheVariants.{Summing, Counted, Granting}
 use Rattle.rwsem_wake.specs.SemParts.{SemPart, busy_weight, busy_of, shared_of, early_of, late_of, IsWhole, some_of}
 use Rattle.rwsem_wake.specs.GrantSemaphores.{SemKept}
+use Rattle.rwsem_wake.specs.Types.{Waiter, Clear, Summing, Counted, Granting}
 use Rattle.rwsem_wake.proofs.Sums.{set-mine}
 use Rattle.rwsem_wake.proofs.WakeLaws.{staged, biased, sem-sums}
 use Rattle.rwsem_wake.proofs.HandoffLaws.{sem-looks}

@@ -6,11 +6,9 @@ use Rattle.lock_core.specs.Records.{bit}
 use Rattle.lock_core.specs.Views.{is_number}
 use Rattle.lock_core.specs.Totals.{total}
 use Rattle.lock_core.proofs.HandLaws.{is_number-here, is_number-else}
-use Rattle.wait_list.specs.declared.view.Waiter.{Waiter}
-use Rattle.rwsem_wake.specs.declared.view.Wait.{Wait}
-use Rattle.rwsem_wake.specs.declared.view.Wait.TheVariants.{Apart, Reads, Writes}
 use Rattle.rwsem_wake.specs.SemParts.{SemPart, reads_weight, granted_weight, named_weight, is_zero, granted_of, granted_at, reads_at, here, some_of, marks_sum, first_mark}
 use Rattle.rwsem_wake.specs.GrantsStated.{Without}
+use Rattle.rwsem_wake.specs.Types.{Waiter, Wait, Apart, Reads, Writes}
 
 total-append : {V : Type 0} (f : V → ℕ) (xs ys : List V) → total f (xs ++ ys) ≡ total f xs + total f ys
 total-append f [] ys = omega arith

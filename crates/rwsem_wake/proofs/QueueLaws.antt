@@ -4,23 +4,16 @@ use mathlib.Core.Option.{some}
 use mathlib.Core.Logic.{dite}
 use native.Mathlib.Decide.{ℕ_discrete}
 use lib.ListN.{get_elem?}
-use Rattle.lock_core.specs.declared.view.Held.TheVariants.{No, Shared}
 use Rattle.lock_core.specs.Records.{bit}
 use Rattle.lock_core.specs.Views.{alone_weight, held_weight, is_number}
 use Rattle.lock_core.specs.Totals.{total, total-set, total-same, total-snoc}
 use Rattle.lock_core.specs.ViewParts.{each-set}
 use Rattle.lock_core.proofs.HandLaws.{is_number-here}
 use Rattle.lock_core.proofs.RowLaws.{same-some}
-use Rattle.wait_list.specs.declared.view.Waiter.{Waiter}
-use Rattle.rwsem_wake.specs.declared.view.Wait.{Wait}
-use Rattle.rwsem_wake.specs.declared.view.Wait.TheVariants.{Apart, Reads, Writes}
-use Rattle.rwsem_count.specs.declared.view.Bias.{Bias}
-use Rattle.rwsem_count.specs.declared.view.Bias.TheVariants.{Clear, Transit}
-use Rattle.rwsem_wake.specs.declared.view.Stage.{Stage}
-use Rattle.rwsem_wake.specs.declared.view.Stage.TheVariants.{Rest, Armed, Joining}
 use Rattle.rwsem_count.specs.Counts.{shared_weight, early_weight, late_weight, CountKept, shared_in, early_in, late_in}
 use Rattle.rwsem_wake.specs.SemParts.{SemPart, transit_weight, reserve_weight, reads_weight, writes_weight, named_weight, granted_weight, granting_weight, busy_weight, shared_of, holds_of, alone_of, early_of, late_of, reserve_of, reads_of, reads_at, writes_at, reader_at, writer_at, reader_of, rest_of, rest_at, busy_of, granting_of, granted_of, granted_at, here, is_zero, some_of, tasks, part_of}
 use Rattle.rwsem_wake.specs.GrantSemaphores.{batch_weight, Quiet, Fresh, FlagsOf, FlagsAt, SemPartOk, SemKept, more_of}
+use Rattle.rwsem_wake.specs.Types.{No, Shared, Waiter, Wait, Apart, Reads, Writes, Bias, Clear, Transit, Stage, Rest, Armed, Joining}
 use Rattle.rwsem_wake.proofs.Sums.{busy-most, mine-of, of-mine, of-others}
 use Rattle.rwsem_wake.proofs.Counting.{adds, count-step, count-back, part-least}
 use Rattle.rwsem_wake.proofs.Places.{some-length, first-least, granted-all, not-zero}

@@ -5,30 +5,22 @@ use native.Mathlib.Decide.{ℕ_discrete}
 use lib.Seq.{set-get_or}
 use Rattle.word_bits.specs.declared.TheConstants.{MAX_TASKS}
 use Rattle.atomic_table.proofs.Lists.{set_again}
-use Rattle.lock_core.specs.declared.op.Op.TheVariants.{Load, Sub, Or, And, Exchange}
-use Rattle.lock_core.specs.declared.view.Held.{Held}
-use Rattle.lock_core.specs.declared.view.Held.TheVariants.{No, Shared, Alone}
 use Rattle.lock_core.specs.Ops.{word_after}
 use Rattle.lock_core.specs.Records.{bit}
 use Rattle.lock_core.specs.Views.{alone_weight, is_number}
 use Rattle.lock_core.specs.Totals.{total, total-at, total-set}
 use Rattle.lock_core.proofs.HandLaws.{is_number-else, is_number-here, not-both}
 use Rattle.word_bits.specs.LockWords.{IsLawfulCount}
-use Rattle.wait_list.specs.declared.view.Waiter.{Waiter}
 use Rattle.wait_list.specs.Lists.{Part, Knows, first_code}
-use Rattle.rwsem_count.specs.declared.view.Bias.{Bias}
-use Rattle.rwsem_count.specs.declared.view.Bias.TheVariants.{Clear, Transit}
 use Rattle.rwsem_count.specs.Counts.{shared_weight, early_weight, late_weight, early_in, late_in, alone_in, shared_in}
 use Rattle.rwsem_count.specs.CountWordSteps.{HasFlags, HasHandoff, IsLocked}
-use Rattle.rwsem_wake.specs.declared.view.Wait.TheVariants.{Apart, Reads, Writes}
-use Rattle.rwsem_wake.specs.declared.view.Stage.{Stage}
-use Rattle.rwsem_wake.specs.declared.view.Stage.TheVariants.{Rest, Armed, Joining, First, Marking, Took, Removed, Emptied, Summing}
-use Rattle.rwsem_wake.specs.declared.view.SemHand.{SemHand}
 use Rattle.rwsem_wake.specs.SemParts.{SemPart, busy_of, early_of, late_of, first_mark, tasks, granted_of, granting_weight, here, is_zero, named_weight, part_of, reads_of, reads_weight, writer_at, writes_at}
 use Rattle.rwsem_wake.specs.GrantSemaphores.{FlagsAt, IsFirst, SemKept, batch_weight, more_of}
 use Rattle.rwsem_wake.specs.Handoffs.{KeepsHandoff, Unasked, granting_at, shared_at}
 use Rattle.rwsem_wake.specs.Grants.{summing, unmarked, unreserved}
 use Rattle.rwsem_wake.specs.GrantQueues.{rested, asked, taken, own_unmarked, heard, heard_locked, settled}
+use Rattle.rwsem_wake.specs.Types.{Load, Sub, Or, And, Exchange, Held, No, Shared, Alone, Waiter, Bias, Clear, Transit, Apart, Reads, Writes, Stage, Rest, Armed, Joining, First, Marking}
+use Rattle.rwsem_wake.specs.Types.{Took, Removed, Emptied, Summing, SemHand}
 use Rattle.rwsem_wake.proofs.Sums.{set-mine}
 use Rattle.rwsem_wake.proofs.Places.{first-least, some-length}
 use Rattle.rwsem_wake.proofs.WakeLaws.{staged, ok-of}

@@ -6,22 +6,18 @@ use native.Mathlib.Decide.{ℕ_discrete}
 use lib.ListN.{get_elem?}
 use Rattle.word_bits.specs.declared.TheConstants.{MAX_TASKS}
 use Rattle.lock_core.specs.Records.{bit}
-use Rattle.lock_core.specs.Views.{is_number}
+use Rattle.lock_core.specs.Views.{is_number, number_weight}
 use Rattle.lock_core.specs.Totals.{total, total-at}
 use Rattle.lock_core.specs.ViewParts.{Each}
 use Rattle.lock_core.proofs.HandLaws.{is_number-here, is_number-else}
-use Rattle.wait_list.specs.declared.view.Waiter.{Waiter}
-use Rattle.rwsem_wake.specs.declared.view.Wait.{Wait}
-use Rattle.rwsem_wake.specs.declared.view.Wait.TheVariants.{Apart, Reads, Writes}
-use Rattle.rwsem_wake.specs.declared.view.Stage.{Stage}
-use Rattle.rwsem_wake.specs.declared.view.Stage.TheVariants.{Rest, Armed, Joining, First, Marking, Took, Removed, Emptied, Overdue, Marked, Removing, Summing, Counted, Granting}
 use Rattle.rwsem_wake.specs.SemParts.{SemPart, reader_bit, reader_at, writer_at, marks_sum, first_mark, tasks, named_weight, is_zero, shared_of, reads_of, reads_at, rest_at, granted_of, granted_weight, granted_at, granting_of, granting_weight, here}
-use Rattle.rwsem_wake.specs.GrantSemaphores.{Quiet, number_weight, number_of, SemPartOk, SemKept}
+use Rattle.rwsem_wake.specs.GrantSemaphores.{Quiet, number_of, SemPartOk, SemKept}
 use Rattle.rwsem_wake.proofs.WakeLaws.{held-most, shared-most}
 use Rattle.wait_list.specs.Lists.{without}
 use Rattle.rwsem_wake.proofs.Places.{mark-least}
 use Rattle.rwsem_wake.specs.Handoffs.{shared_at, granting_at, reads_as}
 use Rattle.rwsem_wake.specs.GrantsStated.{over, Without, OnlyFirst}
+use Rattle.rwsem_wake.specs.Types.{Waiter, Wait, Apart, Reads, Writes, Stage, Rest, Armed, Joining, First, Marking, Took, Removed, Emptied, Overdue, Marked, Removing, Summing, Counted, Granting}
 
 -- a task that stands in the list
 pub without-is : (t : ℕ) (q : List Waiter) → 1 ≤ total (reader_at t) q + total (writer_at t) q → (w : Waiter) × (w.task ≡ t) × Without q w (without t q)

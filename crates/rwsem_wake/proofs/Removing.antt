@@ -3,14 +3,9 @@ use Rattle.std.proofs.Common.{◌≡◌, ◌≢◌, ℕ, zero, suc, ◌+◌, ◌
 use Rattle.std.proofs.lemmas.List.{drop_more, append-nil}
 use Rattle.std.proofs.Math.ListN.{drop_of_length-le}
 use Rattle.lock_core.specs.Records.{bit}
-use Rattle.wait_list.specs.declared.view.Waiter.{Waiter}
-use Rattle.wait_list.specs.declared.view.Change.TheVariants.{Leave}
-use Rattle.wait_list.specs.declared.view.ListHand.{ListHand}
 use Rattle.wait_list.specs.Lists.{AreAmong, IsList, Knows, Removes, counted, first_of, list_part, without}
 use Rattle.wait_list.proofs.Waiters.{counted-behind, counted-own, length-without, sound-changed}
-use Rattle.rwsem_wake.specs.declared.duty.SemWake.{SemWake}
 use Rattle.rwsem_count.specs.Counts.{early_weight, late_weight, shared_weight}
-use Rattle.rwsem_wake.specs.declared.view.SemHand.{SemHand}
 use Rattle.rwsem_wake.specs.Batches.{batch_of, reads, starts_with_reader, task_of}
 use Rattle.lock_core.specs.Totals.{total}
 use Rattle.rwsem_wake.specs.SemParts.{IsWhole, reader_bit, reader_of, some_of, transit_weight}
@@ -21,6 +16,7 @@ use Rattle.rwsem_wake.specs.RwSemViews.{LeavesPicked, MayPick, V, chooses_task, 
 use Rattle.rwsem_wake.specs.Removals.{AreHeads, BeginsWith, Chose, HasRemoved, KnowsList, RemovesAll, without_all}
 use Rattle.rwsem_wake.specs.RwSemWakes.{Grants, batch_in}
 use Rattle.rwsem_wake.specs.Grants.{KeepsOut, OnlySem, all_granted}
+use Rattle.rwsem_wake.specs.Types.{Waiter, Leave, ListHand, SemWake, SemHand}
 use Rattle.rwsem_wake.specs.declared.batches.TheConstants.{MAX_READERS_WAKEUP}
 
 pub heads-first : (t : ℕ) (ts : List ℕ) (q : List Waiter) → AreHeads (t ∷ ts) q → IsFirstReader t q

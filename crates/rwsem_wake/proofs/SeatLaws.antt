@@ -2,17 +2,13 @@
 use Rattle.std.proofs.Common.{◌≡◌, ℕ, ◌+◌, ◌%◌, ◌/◌, List, [], ◌∷◌, ◌++◌, map, set, Option, Some, None, sym, refl, ap, ◌∙◌, subst, arith}
 use mathlib.Core.Option.{some, some-ne-none}
 use lib.ListN.{get_elem?}
-use Rattle.lock_core.specs.declared.view.Held.TheVariants.{No}
 use Rattle.lock_core.specs.Totals.{total-same, total-snoc}
 use Rattle.lock_core.specs.Views.{held_weight}
 use Rattle.lock_core.specs.ViewParts.{each-snoc}
-use Rattle.wait_list.specs.declared.view.Waiter.{Waiter}
-use Rattle.rwsem_wake.specs.declared.view.Stage.{Stage}
-use Rattle.rwsem_wake.specs.declared.view.Stage.TheVariants.{Rest}
-use Rattle.rwsem_wake.specs.declared.view.SemHand.{SemHand}
 use Rattle.rwsem_count.specs.Counts.{shared_weight, early_weight, late_weight, CountKept, CountPart, shared_in, early_in}
 use Rattle.rwsem_wake.specs.SemParts.{SemPart, nobody, apart_hand, busy_of, busy_weight, reads_weight, writes_weight, named_weight, granted_weight, shared_of, holds_of, alone_of, early_of, late_of, reads_of, reads_at, writes_at, rest_of, rest_at, granting_of, granted_of, granted_at, marks_sum, part_of}
 use Rattle.rwsem_wake.specs.GrantSemaphores.{pick, now, FlagsOf, FlagsAt, SemPartOk, SemKept, more_of}
+use Rattle.rwsem_wake.specs.Types.{No, Waiter, Stage, Rest, SemHand}
 use Rattle.rwsem_wake.proofs.Sums.{of-others}
 use Rattle.rwsem_wake.proofs.Counting.{count-step, part-least}
 use Rattle.rwsem_count.specs.Laws.Count.{count-strangers, count-opens}

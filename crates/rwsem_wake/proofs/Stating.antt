@@ -3,17 +3,13 @@ use Rattle.std.proofs.Common.{◌≡◌, ℕ, zero, suc, ◌+◌, ◌*◌, ◌/�
 use Rattle.word_bits.specs.declared.TheConstants.{MAX_TASKS}
 use Rattle.lock_core.specs.Totals.{total}
 use Rattle.lock_core.specs.ViewParts.{Each}
-use Rattle.wait_list.specs.declared.view.Waiter.{Waiter}
-use Rattle.rwsem_count.specs.declared.view.Bias.{Bias}
-use Rattle.rwsem_count.specs.declared.view.Bias.TheVariants.{Clear, Transit, Reserve}
-use Rattle.rwsem_wake.specs.declared.view.Stage.{Stage}
-use Rattle.rwsem_wake.specs.declared.view.Stage.TheVariants.{Rest, Armed, Joining, First, Marking, Took, Removed, Emptied, Overdue, Marked, Removing, Summing, Counted, Granting}
 use Rattle.rwsem_count.specs.Counts.{early_weight, late_weight, CountKept, shared_in, early_in, late_in, alone_in}
 use Rattle.rwsem_wake.specs.SemParts.{SemPart, nobody, transit_weight, reserve_weight, granting_weight, shared_of, alone_of, transit_of, reserve_of, early_of, late_of, reads_of, rest_of, granting_of, busy_of, part_of}
 use Rattle.rwsem_wake.specs.GrantSemaphores.{number_of, FlagsOf, SemPartOk, SemKept, more_of}
 use Rattle.rwsem_wake.proofs.Sums.{total-least, now-idle, flags-rest}
 use Rattle.rwsem_wake.proofs.Counting.{total-map}
 use Rattle.rwsem_wake.specs.GrantsStated.{StatesCount, StatesWaiters}
+use Rattle.rwsem_wake.specs.Types.{Waiter, Bias, Clear, Transit, Reserve, Stage, Rest, Armed, Joining, First, Marking, Took, Removed, Emptied, Overdue, Marked, Removing, Summing, Counted, Granting}
 
 bias-is : (v : SemPart) → early_of v + late_of v ≡ transit_of v + reserve_of v
 bias-is v = go v.sem.bias

@@ -8,16 +8,11 @@ use Rattle.word_bits.specs.declared.TheConstants.{MAX_TASKS}
 use Rattle.word_bits.specs.LockWords.{Unavailable, IsLawfulCount}
 use Rattle.word_bits.specs.Objects.{Obj}
 use Rattle.word_bits.specs.Histories.{Plan}
-use Rattle.lock_core.specs.declared.op.Op.{Op}
-use Rattle.lock_core.specs.declared.view.View.{View}
-use Rattle.lock_core.specs.declared.view.Hand.{Hand}
 use Rattle.lock_core.specs.declared.layout.TheConstants.{LOCK_WORDS, SPIN_WORDS}
 use Rattle.lock_core.specs.Layout.{SiteWords, site, part}
 use Rattle.lock_core.specs.Ops.{word_after}
 use Rattle.lock_core.specs.SpinFrames.{holds_of, holds_at}
 use Rattle.lock_core.specs.Spins.{SpinsKept, frame_of, holds_in}
-use Rattle.lock_core.specs.declared.view.Held.{Held}
-use Rattle.lock_core.specs.declared.view.Held.TheVariants.{No}
 use Rattle.lock_core.specs.Holding.{Learns}
 use Rattle.lock_core.specs.Views.{SpinHolds, hand_of, spin_part, held_of, alone_of, alone_weight, named_of, is_number, took}
 use Rattle.lock_core.specs.Totals.{total}
@@ -27,15 +22,11 @@ use Rattle.lock_core.specs.SitePlays.{Turns}
 use Rattle.lock_core.proofs.HandLaws.{false-or-true, not-both}
 use Rattle.lock_core.proofs.HoldSteps.{quiet-state, site-takes}
 use Rattle.lock_core.proofs.RowLaws.{none-some}
-use Rattle.wait_list.specs.declared.view.Waiter.{Waiter}
-use Rattle.wait_list.specs.declared.view.ListHand.{ListHand}
 use Rattle.wait_list.specs.declared.words.TheConstants.{LIST_WORDS}
 use Rattle.wait_list.specs.Lists.{Part, ListKept, IsList, Knows, list_part, takes_of}
 use Rattle.wait_list.specs.Laws.List.{list-known}
 use Rattle.rwsem_count.specs.Counts.{CountPart, HandStep, alone_in, shared_in, count_part}
 use Rattle.rwsem_count.proofs.Counting.{held-parts, its-plan}
-use Rattle.rwsem_wake.specs.declared.duty.SemWake.{SemWake}
-use Rattle.rwsem_wake.specs.declared.view.SemHand.{SemHand}
 use Rattle.rwsem_wake.specs.SemParts.{SemPart, part_of, busy_weight, busy_of}
 use Rattle.rwsem_wake.specs.GrantSemaphores.{SemKept}
 use Rattle.rwsem_wake.specs.Handoffs.{KeepsHandoff}
@@ -43,6 +34,7 @@ use Rattle.rwsem_wake.specs.Lines.{lines_in}
 use Rattle.rwsem_wake.specs.Grants.{sem_part, semmed, with_changes}
 use Rattle.rwsem_wake.specs.Duties.{WakeGoes}
 use Rattle.rwsem_wake.specs.GrantQueues.{HoldsWhere}
+use Rattle.rwsem_wake.specs.Types.{Op, View, Hand, Held, No, Waiter, ListHand, SemWake, SemHand}
 use Rattle.rwsem_wake.proofs.Sums.{busy-most}
 use Rattle.rwsem_wake.proofs.Lines.{length-lines, lines-at, lines-set, lines-else}
 

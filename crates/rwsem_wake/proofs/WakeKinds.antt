@@ -4,26 +4,18 @@ use mathlib.Core.Logic.{dite}
 use native.Mathlib.Decide.{ℕ_discrete}
 use lib.Seq.{set-get_or}
 use Rattle.word_bits.specs.declared.TheConstants.{MAX_TASKS}
-use Rattle.lock_core.specs.declared.op.Op.TheVariants.{Load}
-use Rattle.lock_core.specs.declared.view.Held.{Held}
-use Rattle.lock_core.specs.declared.view.Held.TheVariants.{No, Shared, Alone}
 use Rattle.lock_core.specs.Ops.{word_after}
 use Rattle.lock_core.specs.Views.{alone_weight, is_number}
 use Rattle.lock_core.specs.Totals.{total, total-at}
 use Rattle.lock_core.proofs.HandLaws.{false-or-true, is_number-here, not-both}
-use Rattle.wait_list.specs.declared.view.Waiter.{Waiter}
 use Rattle.wait_list.specs.Lists.{Part, first_code}
-use Rattle.rwsem_wake.specs.declared.duty.SemWake.{SemWake}
-use Rattle.rwsem_count.specs.declared.view.Bias.{Bias}
-use Rattle.rwsem_count.specs.declared.view.Bias.TheVariants.{Clear, Transit, Reserve}
 use Rattle.rwsem_count.specs.Counts.{shared_weight, early_weight, late_weight}
-use Rattle.rwsem_wake.specs.declared.view.Wait.TheVariants.{Apart, Reads, Writes}
-use Rattle.rwsem_wake.specs.declared.view.Stage.{Stage}
-use Rattle.rwsem_wake.specs.declared.view.Stage.TheVariants.{Rest, Armed, Marking, Took, Removed, Emptied, Removing, Summing, Counted, Granting}
 use Rattle.rwsem_wake.specs.SemParts.{SemPart, late_of, granted_of, granted_weight, granting_of, granting_weight, is_zero, reads_at, shared_of, some_of, transit_of}
 use Rattle.rwsem_wake.specs.Grants.{reserved, unreserved, unmarked, gains, losses, looked, counted, granting_on, granted, tail}
 use Rattle.rwsem_wake.specs.GrantQueues.{rested, asked, taken, own_unmarked, heard, heard_locked, settled}
 use Rattle.rwsem_wake.specs.Duties.{kept_weight, overdue_weight, kept_of, overdue_of, begun_weight, waited_weight, SameGrants, IsOnly, WakeGoes, paid, is_left, left_by, heard_by, after_failed_try_by, after_failed_try_unless, saw_count, exchanged, is_own, saw_mark, heard_at, heard_locked_at}
+use Rattle.rwsem_wake.specs.Types.{Load, Held, No, Shared, Alone, Waiter, SemWake, Bias, Clear, Transit, Reserve, Apart, Reads, Writes, Stage, Rest, Armed, Marking, Took, Removed, Emptied}
+use Rattle.rwsem_wake.specs.Types.{Removing, Summing, Counted, Granting}
 use Rattle.rwsem_wake.proofs.WakeLaws.{staged}
 use Rattle.rwsem_wake.proofs.QueueLaws.{unread-one, reads-at-w}
 use Rattle.rwsem_wake.proofs.Stepping.{Local, with_hand, named_in}

@@ -4,24 +4,15 @@ use mathlib.Core.Option.{some}
 use mathlib.Core.Logic.{dite}
 use native.Mathlib.Decide.{ℕ_discrete}
 use lib.ListN.{get_elem?}
-use Rattle.lock_core.specs.declared.view.Held.{Held}
-use Rattle.lock_core.specs.declared.view.Held.TheVariants.{No, Shared, Alone}
 use Rattle.lock_core.specs.Records.{bit}
-use Rattle.lock_core.specs.Views.{held_weight}
+use Rattle.lock_core.specs.Views.{held_weight, number_weight}
 use Rattle.lock_core.specs.Totals.{total, total-set, total-same, total-at}
 use Rattle.lock_core.specs.ViewParts.{each-set}
 use Rattle.lock_core.proofs.RowLaws.{none-some}
-use Rattle.wait_list.specs.declared.view.Waiter.{Waiter}
-use Rattle.rwsem_wake.specs.declared.view.Wait.{Wait}
-use Rattle.rwsem_wake.specs.declared.view.Wait.TheVariants.{Apart, Reads, Writes}
-use Rattle.rwsem_count.specs.declared.view.Bias.{Bias}
-use Rattle.rwsem_count.specs.declared.view.Bias.TheVariants.{Clear, Transit, Reserve}
-use Rattle.rwsem_wake.specs.declared.view.Stage.{Stage}
-use Rattle.rwsem_wake.specs.declared.view.Stage.TheVariants.{Counted, Granting}
-use Rattle.rwsem_wake.specs.declared.view.SemHand.{SemHand}
 use Rattle.rwsem_count.specs.Counts.{shared_weight, early_weight, late_weight, CountKept, shared_in, early_in}
 use Rattle.rwsem_wake.specs.SemParts.{SemPart, transit_weight, reserve_weight, reads_weight, writes_weight, named_weight, granted_weight, granting_weight, busy_weight, shared_of, alone_of, early_of, late_of, transit_of, holds_of, reserve_of, reads_of, reads_at, writes_at, reader_at, writer_at, reader_of, rest_of, rest_at, busy_of, granting_of, granted_of, granted_at, here, some_of, tasks, part_of}
-use Rattle.rwsem_wake.specs.GrantSemaphores.{batch_weight, Quiet, FlagsOf, FlagsAt, now, SemPartOk, number_weight, number_of, load_of, SemKept, more_of}
+use Rattle.rwsem_wake.specs.GrantSemaphores.{batch_weight, Quiet, FlagsOf, FlagsAt, now, SemPartOk, number_of, load_of, SemKept, more_of}
+use Rattle.rwsem_wake.specs.Types.{Held, No, Shared, Alone, Waiter, Wait, Apart, Reads, Writes, Bias, Clear, Transit, Reserve, Stage, Counted, Granting, SemHand}
 use Rattle.rwsem_wake.proofs.Sums.{mine-of, of-mine, of-others}
 use Rattle.rwsem_wake.proofs.Counting.{count-step, part-least}
 use Rattle.rwsem_wake.proofs.Places.{some-length, first-least, granted-all, grant-all, grant-here, grant-else, here-mine, here-else}

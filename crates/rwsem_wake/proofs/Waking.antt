@@ -7,23 +7,13 @@ use lib.ListN.{get_elem?}
 use lib.Seq.{set-get_or}
 use Rattle.word_bits.specs.declared.TheConstants.{MAX_TASKS}
 use Rattle.atomic_table.proofs.Lists.{set_again}
-use Rattle.lock_core.specs.declared.op.Op.{Op}
-use Rattle.lock_core.specs.declared.op.Op.TheVariants.{Load, Add, Sub}
 use Rattle.lock_core.specs.Ops.{word_after}
 use Rattle.lock_core.specs.Records.{bit}
 use Rattle.lock_core.specs.Views.{is_number}
 use Rattle.lock_core.proofs.HandLaws.{is_number-here}
 use Rattle.word_bits.specs.LockWords.{IsLawfulCount}
-use Rattle.rwsem_wake.specs.declared.view.Wait.{Wait}
-use Rattle.rwsem_wake.specs.declared.view.Wait.TheVariants.{Apart, Reads, Writes}
 use Rattle.lock_core.specs.Totals.{total, total-set, total-same, total-at}
-use Rattle.wait_list.specs.declared.view.Waiter.{Waiter}
 use Rattle.wait_list.specs.Lists.{Part, Knows, first_code}
-use Rattle.rwsem_count.specs.declared.view.Bias.{Bias}
-use Rattle.rwsem_count.specs.declared.view.Bias.TheVariants.{Clear, Reserve}
-use Rattle.rwsem_wake.specs.declared.view.Stage.{Stage}
-use Rattle.rwsem_wake.specs.declared.view.Stage.TheVariants.{Rest, Armed, Overdue, Marked, Removing, Summing, Counted, Granting}
-use Rattle.rwsem_wake.specs.declared.view.SemHand.{SemHand}
 use Rattle.rwsem_count.specs.Counts.{early_weight, late_weight, early_in, late_in}
 use Rattle.rwsem_wake.specs.SemParts.{SemPart, busy_of, busy_weight, shared_of, early_of, late_of, reserve_weight, reserve_of, granting_weight, IsWhole, first_mark, tasks, here, reads_weight, named_weight, granted_at, reads_at}
 use Rattle.rwsem_wake.specs.GrantSemaphores.{SemKept}
@@ -36,6 +26,7 @@ use Rattle.rwsem_wake.proofs.LookLaws.{sem-sums-none}
 use Rattle.rwsem_wake.specs.Handoffs.{BatchGoes, ComesToMark, KeepsHandoff, MarksNext, KeepsFound, shared_at, granting_at}
 use Rattle.rwsem_wake.proofs.HandoffSteps.{PassGoes, batch-comes, first-marked, marking, marks-stay, of-pass, pass-same, pass-turns, reads-apart, hands-asks, hands-free, hands-still, hands-step, hands-sums, hands-grants, hands-unmarks, unasked-same}
 use Rattle.rwsem_wake.specs.Grants.{tail, saw_handoff, armed, reserved, unreserved, marked, unmarked, summing, gains, losses, looked, counted, granting_on, granted}
+use Rattle.rwsem_wake.specs.Types.{Op, Load, Add, Sub, Wait, Apart, Reads, Writes, Waiter, Bias, Clear, Reserve, Stage, Rest, Armed, Overdue, Marked, Removing, Summing, Counted, Granting, SemHand}
 use Rattle.rwsem_wake.proofs.Stepping.{Local, with_hand, named_in}
 use Rattle.rwsem_wake.proofs.Counting.{part-least}
 

@@ -4,12 +4,11 @@ use mathlib.Core.Logic.{dite}
 use native.Mathlib.Decide.{ℕ_discrete}
 use Rattle.word_bits.specs.declared.TheConstants.{MAX_TASKS}
 use Rattle.lock_core.specs.Records.{bit}
-use Rattle.wait_list.specs.declared.view.Waiter.{Waiter}
-use Rattle.wait_list.specs.declared.view.ListHand.{ListHand}
 use Rattle.wait_list.specs.Lists.{AreAmong, FindsNext, IsList, Knows, KnowsWaiter, counted, first_of, next_of}
 use Rattle.wait_list.proofs.Waiters.{counted-append, counted-else}
 use Rattle.rwsem_wake.specs.RwSemViews.{V, list_of, with_list}
 use Rattle.rwsem_wake.specs.Removals.{IsAlong, KnowsList}
+use Rattle.rwsem_wake.specs.Types.{Waiter, ListHand}
 
 abbrev by-task : ℕ → Waiter → List Waiter → Bool → Option Waiter
 by-task t x q b = if b then first_of q else next_of t q

@@ -1,6 +1,6 @@
 -- The batch of a wake: the first readers of a list.
 use Rattle.std.specs.Prelude.{◌≡◌, ℕ, zero, suc, ◌⊎◌, Bool, true, false, List, [], ◌∷◌, map, filter, take, if◌then◌else◌}
-use Rattle.wait_list.specs.declared.view.Waiter.{Waiter}
+use Rattle.rwsem_wake.specs.Types.{Waiter}
 
 abbrev pub reads : Waiter → Bool
 reads w = if w.writer then false else true

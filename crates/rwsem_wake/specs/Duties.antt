@@ -1,23 +1,14 @@
 -- What of a semaphore's pass concerns wakes, and what a step on the count, a mark or a grant word makes of it.
 use Rattle.std.specs.Prelude.{◌≡◌, ◌≢◌, ℕ, zero, suc, ◌+◌, ◌-◌, ◌/◌, ◌%◌, ◌≤◌, ◌==◌, ◌⊎◌, ◌&&◌, Bool, true, false, List, ◌∷◌, length, slice_set, Option, Some, None, if◌then◌else◌}
-use Rattle.lock_core.specs.declared.view.Held.TheVariants.{Shared, Alone}
 use Rattle.lock_core.specs.Totals.{total}
 use Rattle.lock_core.specs.ViewParts.{Each}
-use Rattle.lock_core.specs.declared.view.View.{View}
-use Rattle.wait_list.specs.declared.view.ListHand.{ListHand}
-use Rattle.wait_list.specs.declared.view.Waiter.{Waiter}
 use Rattle.wait_list.specs.Lists.{first_code}
-use Rattle.wake_duty.specs.declared.view.WaitState.TheVariants.{Absent, Awake}
 use Rattle.wake_duty.specs.DutyWakes.{after_failed_try}
-use Rattle.rwsem_wake.specs.declared.duty.SemWake.{SemWake}
 use Rattle.rwsem_wake.specs.SemDuties.{DutyPart}
-use Rattle.rwsem_count.specs.declared.view.Bias.{Bias}
-use Rattle.rwsem_count.specs.declared.view.Bias.TheVariants.{Clear, Transit, Reserve}
-use Rattle.rwsem_wake.specs.declared.view.Wait.TheVariants.{Apart, Reads, Writes}
-use Rattle.rwsem_wake.specs.declared.view.Stage.{Stage}
-use Rattle.rwsem_wake.specs.declared.view.Stage.TheVariants.{Rest, Armed, Joining, First, Marking, Took, Removed, Emptied, Overdue, Marked, Removing, Summing, Counted, Granting}
 use Rattle.rwsem_wake.specs.SemParts.{SemPart, alone_of, busy_of, granted_of, granting_of, shared_of, transit_of, writes_weight}
 use Rattle.rwsem_wake.specs.Grants.{reserved, unreserved}
+use Rattle.rwsem_wake.specs.Types.{Shared, Alone, View, ListHand, Waiter, Absent, Awake, SemWake, Bias, Clear, Transit, Reserve, Apart, Reads, Writes, Stage, Rest, Armed, Joining, First}
+use Rattle.rwsem_wake.specs.Types.{Marking, Took, Removed, Emptied, Overdue, Marked, Removing, Summing, Counted, Granting}
 
 -- a bias that keeps writers out: one in transit, or one reserved where there was no writer
 abbrev pub kept_weight : Bias → ℕ

@@ -1,22 +1,14 @@
 -- What a step of a task that queues makes of its pass, and when it may be made.
 use Rattle.std.specs.Prelude.{◌≡◌, ℕ, ◌+◌, ◌/◌, ◌%◌, ◌≤◌, ◌⊎◌, ◌==◌, ◌↔◌, Bool, true, false, List, [], length, Some, if◌then◌else◌}
-use Rattle.word_bits.specs.declared.entry.Entry.{Entry}
 use Rattle.word_bits.specs.Objects.{Obj}
 use Rattle.word_bits.specs.Histories.{Plan}
-use Rattle.lock_core.specs.declared.view.View.{View}
-use Rattle.lock_core.specs.declared.view.Held.{Held}
 use Rattle.lock_core.specs.Holding.{Learns}
 use Rattle.lock_core.specs.SitePlays.{Sat, Turns}
 use Rattle.lock_core.specs.Views.{took}
-use Rattle.wait_list.specs.declared.view.ListHand.{ListHand}
 use Rattle.wait_list.specs.Lists.{Knows, first_code, list_part}
-use Rattle.rwsem_wake.specs.declared.duty.SemWake.{SemWake}
-use Rattle.rwsem_count.specs.declared.view.Bias.TheVariants.{Clear, Transit}
 use Rattle.rwsem_count.specs.CountWordSteps.{HasFlags, HasHandoff, IsLocked}
-use Rattle.rwsem_wake.specs.declared.view.SemHand.{SemHand}
-use Rattle.rwsem_wake.specs.declared.view.Wait.TheVariants.{Apart, Reads, Writes}
-use Rattle.rwsem_wake.specs.declared.view.Stage.TheVariants.{Rest, Armed, Marking, Took, Summing}
 use Rattle.rwsem_wake.specs.Grants.{KnowsFirst, with_changes}
+use Rattle.rwsem_wake.specs.Types.{Entry, View, Held, ListHand, SemWake, Clear, Transit, SemHand, Apart, Reads, Writes, Rest, Armed, Marking, Took, Summing}
 
 -- what becomes of the part
 

@@ -3,14 +3,11 @@ use Rattle.std.specs.Prelude.{◌≡◌, ℕ, zero, suc, ◌+◌, ◌/◌, ◌%�
 use Rattle.lock_core.specs.Records.{bit}
 use Rattle.lock_core.specs.Totals.{total}
 use Rattle.lock_core.specs.ViewParts.{Each}
-use Rattle.wait_list.specs.declared.view.Waiter.{Waiter}
+use Rattle.lock_core.specs.Views.{number_weight}
 use Rattle.rwsem_count.specs.Counts.{CountKept}
-use Rattle.rwsem_count.specs.declared.view.Bias.TheVariants.{Clear}
-use Rattle.rwsem_wake.specs.declared.view.Wait.TheVariants.{Apart}
-use Rattle.rwsem_wake.specs.declared.view.Stage.{Stage}
-use Rattle.rwsem_wake.specs.declared.view.Stage.TheVariants.{Rest, Armed, Joining, First, Marking, Took, Removed, Emptied, Overdue, Marked, Removing, Summing, Counted, Granting}
 use Rattle.rwsem_wake.specs.SemParts.{SemPart, nobody, part_of, shared_of, holds_of, early_of, late_of, reads_of, transit_of, reserve_of, busy_of, granting_of, granted_of, rest_of, reads_at}
 use Rattle.rwsem_wake.specs.SemParts.{writes_at, rest_at, granted_at, reader_at, writer_at, reader_of, IsWhole, some_of, marks_sum, first_mark, tasks, own_mark}
+use Rattle.rwsem_wake.specs.Types.{Waiter, Clear, Apart, Stage, Rest, Armed, Joining, First, Marking, Took, Removed, Emptied, Overdue, Marked, Removing, Summing, Counted, Granting}
 
 -- WAITERS is set exactly where somebody waits, and HANDOFF only there. The first waiter alone may be marked, and then HANDOFF is set.
 pub record Quiet (w h : ℕ) (q : List Waiter) (marks : List ℕ) : Type 0 where
@@ -73,10 +70,6 @@ batch_weight Removing = 1
 batch_weight Summing = 1
 batch_weight (Counted b) = 1
 batch_weight Granting = 1
-
-abbrev pub number_weight : Option ℕ → ℕ
-number_weight None = 0
-number_weight (Some t) = 1
 
 abbrev pub number_of : SemPart → ℕ
 number_of v = number_weight v.task

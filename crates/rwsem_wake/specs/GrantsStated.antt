@@ -3,10 +3,9 @@ use Rattle.std.proofs.Common.{◌≡◌, ◌⊎◌, true, false, ℕ, zero, suc,
 use Rattle.lock_core.specs.Totals.{total}
 use Rattle.word_bits.specs.declared.TheConstants.{MAX_TASKS}
 use Rattle.wait_list.specs.Lists.{first_code}
-use Rattle.wait_list.specs.declared.view.Waiter.{Waiter}
-use Rattle.rwsem_wake.specs.declared.view.Stage.TheVariants.{Removing}
 use Rattle.rwsem_wake.specs.SemParts.{SemPart, shared_of, alone_of, transit_of, reserve_of, granting_of, granted_of, busy_of, granted_at, reads_at, writes_at, rest_at, reader_at, writer_at}
 use Rattle.rwsem_wake.specs.GrantSemaphores.{Quiet}
+use Rattle.rwsem_wake.specs.Types.{Waiter, Removing}
 use Rattle.rwsem_wake.specs.declared.batches.TheConstants.{MAX_READERS_WAKEUP}
 
 -- readers: those that hold shared, those that are granted, and those in the rest of a batch that is in the count

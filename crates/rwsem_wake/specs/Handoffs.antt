@@ -2,17 +2,13 @@
 use Rattle.std.proofs.Common.{◌≡◌, ◌≢◌, ℕ, ◌+◌, ◌/◌, ◌%◌, ◌<◌, ◌⊎◌, List, [], ◌∷◌, ◌++◌, length, get_or, Some}
 use mathlib.Core.Option.{some}
 use lib.ListN.{get_elem?}
-use Rattle.lock_core.specs.declared.view.Held.TheVariants.{Shared, Alone}
 use Rattle.lock_core.specs.Totals.{total}
-use Rattle.wait_list.specs.declared.view.Waiter.{Waiter}
 use Rattle.wait_list.specs.Lists.{first_code}
-use Rattle.rwsem_count.specs.declared.view.Bias.TheVariants.{Transit, Reserve}
 use Rattle.rwsem_count.specs.Counts.{BiasGoes}
-use Rattle.rwsem_wake.specs.declared.view.Wait.TheVariants.{Writes}
-use Rattle.rwsem_wake.specs.declared.view.Stage.TheVariants.{Marking, Granting}
 use Rattle.rwsem_wake.specs.SemParts.{SemPart, named_weight, granting_weight, shared_of, granted_at, here, first_mark, IsWhole, tasks}
 use Rattle.rwsem_wake.specs.GrantSemaphores.{IsFirst}
 use Rattle.rwsem_wake.specs.GrantsStated.{Picks}
+use Rattle.rwsem_wake.specs.Types.{Shared, Alone, Waiter, Transit, Reserve, Writes, Marking, Granting}
 
 abbrev pub shared_at : ℕ → SemPart → ℕ
 shared_at t v = named_weight t v.task (shared_of v)

@@ -1,3 +1,4 @@
+pub mod Types
 pub mod Batches
 pub mod SemParts
 pub mod GrantSemaphores

@@ -1,10 +1,8 @@
 -- A waker removes its batch from the list, one waiter after another.
 use Rattle.std.specs.Prelude.{◌≡◌, ℕ, ◌+◌, ◌<◌, ◌≤◌, ◌⊎◌, true, false, List, [], ◌∷◌, ◌++◌, length, drop}
-use Rattle.wait_list.specs.declared.view.Waiter.{Waiter}
 use Rattle.wait_list.specs.Lists.{IsList, Knows, first_code, list_part, without}
-use Rattle.rwsem_wake.specs.declared.view.Stage.TheVariants.{Removing}
-use Rattle.rwsem_wake.specs.declared.duty.SemWake.{SemWake}
 use Rattle.rwsem_wake.specs.RwSemViews.{V, MayPick, list_of}
+use Rattle.rwsem_wake.specs.Types.{Waiter, Removing, SemWake}
 
 -- these are the first readers of the list, in order
 abbrev pub AreHeads : List ℕ → List Waiter → Type 0

@@ -1,14 +1,11 @@
 -- Where a pass stands in a call on a semaphore, and what callers of any lock see of it.
 use Rattle.std.specs.Prelude.{◌≡◌, ℕ, false, []}
-use Rattle.lock_core.specs.declared.view.Line.{Line}
-use Rattle.lock_core.specs.declared.pass.Pass.{Pass}
 use Rattle.lock_core.specs.SiteHandles.{view_of, past_of}
 use Rattle.lock_core.specs.Shown.{Shown, shown}
-use Rattle.wake_duty.specs.declared.view.WaitState.TheVariants.{Absent}
 use Rattle.rwsem_wake.specs.SemParts.{apart_hand}
 use Rattle.rwsem_wake.specs.declared.woken.WakeCounts.{WakeCounts}
-use Rattle.rwsem_wake.specs.declared.view.RwSemHand.{RwSemHand}
 use Rattle.rwsem_wake.specs.RwSemViews.{V, IsDone}
+use Rattle.rwsem_wake.specs.Types.{Line, Pass, Absent, RwSemHand}
 
 -- how a pass has stood in line
 abbrev pub line_of : RwSemHand → Line

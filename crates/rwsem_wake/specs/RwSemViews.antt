@@ -1,30 +1,15 @@
 -- What a pass knows of a semaphore's table, and what a look at the list's head or a change of the list makes of that.
 use Rattle.std.specs.Prelude.{◌≡◌, ℕ, ◌+◌, ◌<◌, ◌≤◌, ◌==◌, ◌&&◌, ◌⊎◌, true, false, List, [], ◌∷◌, ◌++◌, length, Bool, Option, Some, None, if◌then◌else◌}
 use Rattle.word_bits.specs.declared.TheConstants.{MAX_TASKS}
-use Rattle.lock_core.specs.declared.view.View.{View}
-use Rattle.lock_core.specs.declared.view.Held.{Held}
-use Rattle.lock_core.specs.declared.view.Held.TheVariants.{No, Shared, Alone}
 use Rattle.lock_core.specs.declared.layout.TheConstants.{SPIN_ROOM}
 use Rattle.lock_core.specs.Spins.{holds_in}
-use Rattle.wait_list.specs.declared.view.Waiter.{Waiter}
-use Rattle.wait_list.specs.declared.view.Change.{Change}
-use Rattle.wait_list.specs.declared.view.Change.TheVariants.{Stay, Enter, Leave}
-use Rattle.wait_list.specs.declared.view.ListHand.{ListHand}
-use Rattle.wake_duty.specs.declared.view.WaitState.TheVariants.{Absent, Awake}
-use Rattle.rwsem_wake.specs.declared.duty.SemWake.{SemWake}
 use Rattle.rwsem_wake.specs.SemDuties.{times, setting}
-use Rattle.rwsem_count.specs.declared.view.Bias.{Bias}
-use Rattle.rwsem_count.specs.declared.view.Bias.TheVariants.{Clear, Transit, Reserve}
-use Rattle.rwsem_wake.specs.declared.view.RwSemHand.{RwSemHand}
-use Rattle.rwsem_wake.specs.declared.view.SemHand.{SemHand}
-use Rattle.rwsem_wake.specs.declared.view.Wait.{Wait}
-use Rattle.rwsem_wake.specs.declared.view.Wait.TheVariants.{Apart, Reads, Writes}
-use Rattle.rwsem_wake.specs.declared.view.Stage.{Stage}
-use Rattle.rwsem_wake.specs.declared.view.Stage.TheVariants.{Rest, Armed, Joining, First, Took, Removed, Emptied, Overdue, Removing, Summing}
 use Rattle.rwsem_wake.specs.SemParts.{SemPart}
 use Rattle.rwsem_wake.specs.GrantsStated.{Picks}
 use Rattle.rwsem_wake.specs.Grants.{KeepsOut, sem_part}
 use Rattle.rwsem_wake.specs.Duties.{paid}
+use Rattle.rwsem_wake.specs.Types.{View, Held, No, Shared, Alone, Waiter, Change, Stay, Enter, Leave, ListHand, Absent, Awake, SemWake, Bias, Clear, Transit, Reserve, RwSemHand, SemHand}
+use Rattle.rwsem_wake.specs.Types.{Wait, Apart, Reads, Writes, Stage, Rest, Armed, Joining, First, Took, Removed, Emptied, Overdue, Removing, Summing}
 
 abbrev pub V : Type 0
 V = View RwSemHand

@@ -2,24 +2,17 @@
 use Rattle.std.specs.Prelude.{◌≡◌, ◌≢◌, ℕ, ◌%◌, ◌/◌, ◌^◌, ◌==◌, ◌≤◌, Bool, true, false, List, [], ◌∷◌, drop, if◌then◌else◌}
 use Rattle.lock_core.specs.Records.{bit}
 use Rattle.lock_core.specs.Shown.{Shown, FindsSince}
-use Rattle.lock_core.specs.declared.pass.Pass.{Pass}
 use Rattle.lock_core.specs.SiteHandles.{view_of}
-use Rattle.wait_list.specs.declared.view.Waiter.{Waiter}
 use Rattle.wait_list.specs.Lists.{Knows, first_code, list_part}
-use Rattle.rwsem_count.specs.declared.view.Bias.TheVariants.{Clear}
 use Rattle.rwsem_count.specs.Counts.{shared_weight}
-use Rattle.rwsem_wake.specs.declared.view.Stage.TheVariants.{Rest}
-use Rattle.rwsem_wake.specs.declared.view.Wait.TheVariants.{Apart}
 use Rattle.rwsem_wake.specs.Batches.{batch_of, starts_with_reader}
-use Rattle.rwsem_wake.specs.declared.view.RwSemHand.{RwSemHand}
-use Rattle.rwsem_wake.specs.declared.wake.WakeType.{WakeType}
-use Rattle.rwsem_wake.specs.declared.wake.WakeType.TheVariants.{Any, Readers, ReadOwned}
 use Rattle.rwsem_wake.specs.declared.woken.Woken.{Woken}
 use Rattle.rwsem_wake.specs.declared.woken.Woken.TheVariants.{Nobody, First, Batch}
 use Rattle.rwsem_wake.specs.RwSemViews.{V, count_at, list_at, list_of, looked}
 use Rattle.rwsem_wake.specs.RwSemPlaces.{seen_of}
 use Rattle.cpu_task.specs.CpuCounting.{slept}
 use Rattle.rwsem_wake.specs.Removals.{Chose, KnowsList, StaysBeside, without_all}
+use Rattle.rwsem_wake.specs.Types.{Pass, Waiter, Clear, Rest, Apart, RwSemHand, WakeType, Any, Readers, ReadOwned}
 use Rattle.rwsem_wake.specs.declared.batches.TheConstants.{MAX_READERS_WAKEUP}
 
 -- how a task that queues wakes at this count, which no writer holds: readers alone where readers hold, else whoever may go on

@@ -5,12 +5,9 @@ use Rattle.lock_core.specs.Records.{bit}
 use Rattle.lock_core.specs.Totals.{total}
 use Rattle.lock_core.specs.ViewParts.{Each}
 use Rattle.lock_core.specs.Tallies.{raised}
-use Rattle.wait_list.specs.declared.view.Waiter.{Waiter}
+use Rattle.rwsem_wake.specs.Types.{Waiter, WaitState, Absent, Awake, SemWake}
 use Rattle.wait_list.specs.Lists.{first_code}
-use Rattle.wake_duty.specs.declared.view.WaitState.{WaitState}
-use Rattle.wake_duty.specs.declared.view.WaitState.TheVariants.{Absent, Awake}
 use Rattle.wake_duty.specs.DutyWakes.{WAKE_WORDS, wake_word, awake, waits, drowsed_at, dozed_at}
-use Rattle.rwsem_wake.specs.declared.duty.SemWake.{SemWake}
 
 -- it owes nothing, and isn't in the list
 abbrev pub no_wake : SemWake

@@ -1,18 +1,10 @@
 -- What of a view concerns a semaphore, and what it weighs in the sums of its rule.
 use Rattle.std.specs.Prelude.{◌≡◌, ℕ, zero, suc, ◌+◌, ◌*◌, ◌==◌, ◌⊎◌, Bool, true, false, List, [], ◌∷◌, length, slice_index, Option, Some, None}
-use Rattle.lock_core.specs.declared.view.Held.{Held}
-use Rattle.lock_core.specs.declared.view.Held.TheVariants.{No}
+use Rattle.rwsem_wake.specs.Types.{Held, No, Waiter, Wait, Apart, Reads, Writes, Bias, Clear, Transit, Reserve, Stage, Rest, Armed, Joining, First, Marking, Took, Removed, Emptied, Overdue}
+use Rattle.rwsem_wake.specs.Types.{Marked, Removing, Summing, Counted, Granting, SemHand}
 use Rattle.lock_core.specs.Records.{bit}
 use Rattle.lock_core.specs.Views.{is_number, alone_weight, held_weight}
 use Rattle.lock_core.specs.Totals.{total}
-use Rattle.wait_list.specs.declared.view.Waiter.{Waiter}
-use Rattle.rwsem_wake.specs.declared.view.Wait.{Wait}
-use Rattle.rwsem_wake.specs.declared.view.Wait.TheVariants.{Apart, Reads, Writes}
-use Rattle.rwsem_count.specs.declared.view.Bias.{Bias}
-use Rattle.rwsem_count.specs.declared.view.Bias.TheVariants.{Clear, Transit, Reserve}
-use Rattle.rwsem_wake.specs.declared.view.Stage.{Stage}
-use Rattle.rwsem_wake.specs.declared.view.Stage.TheVariants.{Rest, Armed, Joining, First, Marking, Took, Removed, Emptied, Overdue, Marked, Removing, Summing, Counted, Granting}
-use Rattle.rwsem_wake.specs.declared.view.SemHand.{SemHand}
 use Rattle.rwsem_wake.specs.declared.batches.TheConstants.{MAX_READERS_WAKEUP}
 use Rattle.rwsem_count.specs.Counts.{CountPart, shared_weight, early_weight, late_weight}
 

@@ -5,9 +5,9 @@ ghost use Rattle.lock_core.specs.Records.{bit};
 ghost use Rattle.lock_core.specs.Views.{SpinHolds};
 ghost use Rattle.wait_list.specs.Lists.{Knows, hand_at, list_part};
 ghost use Rattle.rwsem_count.specs.Counts.{early_weight};
-ghost use Rattle.rwsem_wake.specs.declared.view.Stage.TheVariants.{Removing, Summing};
 ghost use Rattle.rwsem_wake.specs.SemParts.{some_of};
 ghost use Rattle.rwsem_wake.specs.Grants.{AreTaskNumbers, HasWholeBatch, IsGranting, IsNext, IsRemoved, IsReserved, KeepsOut, KnowsFirst, OnlySem, all_granted, counted, sem_at, summing, unreserved};
+ghost use Rattle.rwsem_wake.specs.Types.{Removing, Summing};
 
 use crate::host::GrantHost;
 use crate::steps;

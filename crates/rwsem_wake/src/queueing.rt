@@ -2,16 +2,13 @@
 ghost use Rattle.std.specs.Prelude.{◌≡◌, ◌≢◌, ℕ, ◌<◌, ◌≤◌, ◌+◌, ◌-◌, ◌*◌, ◌%◌, ◌==◌, ◌⊎◌, true, false, IsSome, Some, length};
 ghost use Rattle.word_bits.specs.LockWords.{IsLawfulCount};
 ghost use Rattle.lock_core.specs.SiteHandles.{plan_of, view_of, past_of, task_in, held_in, SitsAt, StepsAt, SaysSame};
-ghost use Rattle.lock_core.specs.declared.view.Held.TheVariants.{No, Shared, Alone};
 ghost use Rattle.lock_core.specs.Pasts.{FoundAt};
 ghost use Rattle.lock_core.specs.Records.{bit};
 ghost use Rattle.lock_core.specs.Views.{SpinHolds};
-ghost use Rattle.rwsem_count.specs.declared.view.Bias.TheVariants.{Clear, Transit};
-ghost use Rattle.rwsem_wake.specs.declared.view.Stage.TheVariants.{Rest, First, Joining, Marking, Removed, Emptied};
-ghost use Rattle.rwsem_wake.specs.declared.view.Wait.TheVariants.{Writes};
 ghost use Rattle.rwsem_wake.specs.Grants.{Did, KnowsFirst, StepChanges, ChangesTo, TurnsTo, anything, sem_at, summing, unmarked, unreserved, wake_at};
 ghost use Rattle.rwsem_wake.specs.Duties.{exchanged, heard_at, heard_locked_at, left_by, paid, saw_count, saw_mark, sees_itself};
 ghost use Rattle.rwsem_wake.specs.GrantQueues.{HoldsBy, HoldsWhere, KnowsSome, MayAsk, MayHear, MayLook, MaySettle, MayTake, asked, heard, heard_locked, own_unmarked, rested, settled, taken};
+ghost use Rattle.rwsem_wake.specs.Types.{No, Shared, Alone, Clear, Transit, Rest, First, Joining, Marking, Removed, Emptied, Writes};
 
 use crate::host::GrantHost;
 use crate::steps::{LINE, MARKED};

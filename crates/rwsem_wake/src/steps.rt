@@ -8,10 +8,9 @@ ghost use Rattle.lock_core.specs.Pasts.{FoundAt};
 ghost use Rattle.lock_core.specs.Records.{bit};
 ghost use Rattle.lock_core.specs.Views.{SpinHolds};
 ghost use Rattle.wait_list.specs.Lists.{Knows, hand_at, list_part};
-ghost use Rattle.rwsem_count.specs.declared.view.Bias.TheVariants.{Clear};
-ghost use Rattle.rwsem_wake.specs.declared.view.Stage.TheVariants.{Granting, Removing, Summing};
 ghost use Rattle.rwsem_wake.specs.Grants.{Did, HasFoundWriter, HasMarked, HasWholeBatch, IsNext, KeepsOut, KnowsFirst, MayArm, MayReserve, MaySum, StepChanges, ChangesTo, TurnsTo, anything, armed, counted, granted, looked, marked, reserved, sem_at, summing, unmarked, unreserved, wake_at};
 ghost use Rattle.rwsem_wake.specs.Duties.{paid};
+ghost use Rattle.rwsem_wake.specs.Types.{Clear, Granting, Removing, Summing};
 
 use crate::host::GrantHost;
 use atomic_table::Play;

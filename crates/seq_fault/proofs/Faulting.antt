@@ -1,12 +1,8 @@
 -- A call that reads without the lock, step by step.
 use Rattle.std.proofs.Common.{◌≤◌, ◌≡◌, ◌∙◌, ℕ, ◌+◌, ◌%◌, Bool, true, false, List, length, slice_index, Option, Some, IfSome, sym, refl, ap, subst, arith, inl, inr}
 use Rattle.std.specs.Prelude.{Result, Ok, Err, IfOk, IfErr}
-use Rattle.word_bits.specs.declared.entry.Entry.{Entry}
-use Rattle.word_bits.specs.declared.reply.Reply.{Reply}
 use Rattle.word_bits.specs.PageMaps.{PageMap, IsPageMap}
 use Rattle.word_bits.specs.Histories.{Plan, state_after}
-use Rattle.lock_core.specs.declared.view.Hand.{Hand}
-use Rattle.lock_core.specs.declared.view.Moment.{Moment}
 use Rattle.lock_core.specs.Holding.{Learns}
 use Rattle.lock_core.specs.Layout.{length_place}
 use Rattle.lock_core.specs.SitePasses.{IsSeenReading}
@@ -14,15 +10,12 @@ use Rattle.lock_core.specs.Pasts.{FoundAt, FoundAtStep, GoesOn, IsOwnStep, IsSte
 use Rattle.lock_core.specs.Laws.SiteRun.{found-at-step}
 use Rattle.lock_core.specs.Views.{next_entry, ticked, after_seen}
 use Rattle.lock_core.proofs.HandLaws.{not-both}
-use Rattle.vma_map.specs.declared.call.SpaceCall.TheVariants.{Fault}
-use Rattle.vma_map.specs.declared.search.Search.{Search}
 use Rattle.vma_map.specs.Searches.{AgreesWith, asked, page_of, wanted}
 use Rattle.vma_map.specs.Spaces.{access_reply, space, stores}
-use Rattle.seq_fault.specs.declared.view.Glance.{Glance}
-use Rattle.seq_fault.specs.declared.view.Watch.TheVariants.{Off, On}
 use Rattle.seq_fault.specs.SeqPlays.{turned, glance, staled, saw_log}
 use Rattle.seq_fault.specs.SeqRuled.{V, seq_at}
 use Rattle.seq_fault.specs.SeqSteps.{AtOneWord, Faults, HasSearched, IsMeasured, IsNextFault, IsOptimisticRead, IsWatching, StepsAtMost, OnlySteps, TellsSince}
+use Rattle.seq_fault.specs.Types.{Entry, Reply, Hand, Moment, Fault, Search, Glance, Off, On}
 use Rattle.seq_fault.proofs.Stepping.{on-off}
 
 -- what the pass's step of this number found

@@ -2,7 +2,6 @@
 use Rattle.std.proofs.Common.{◌≡◌, ◌∙◌, ℕ, zero, suc, ◌+◌, ◌%◌, ◌≤◌, ◌⊎◌, inl, inr, List, [], ◌∷◌, length, map, drop, slice_get, Some, refl, sym, ap, subst, arith}
 use Rattle.word_bits.specs.Objects.{Obj}
 use Rattle.word_bits.specs.Histories.{Plan}
-use Rattle.lock_core.specs.declared.view.Moment.{Moment}
 use Rattle.lock_core.specs.Layout.{site}
 use Rattle.lock_core.specs.Pasts.{Instant, moment, Moves, Paced, Ran, Tail}
 use Rattle.lock_core.specs.Sites.{SameObject}
@@ -12,10 +11,10 @@ use Rattle.lock_core.proofs.HandLaws.{false-or-true}
 use Rattle.lock_core.proofs.Opening.{fresh-free}
 use Rattle.lock_core.proofs.RowLaws.{none-some, same-some}
 use Rattle.lock_core.proofs.Stating.{kept-states}
-use Rattle.seq_fault.specs.declared.view.Watch.{Watch}
 use Rattle.seq_fault.specs.SeqRuled.{V, SeqKept, SeqMoves, never, newest, seq_at, unmarked}
 use Rattle.seq_fault.specs.Laws.SeqRuled.{none-alone}
 use Rattle.seq_fault.specs.SeqStated.{CountsEnters, IsSeqSite, StaysAtOneWord, holders, seq_of}
+use Rattle.seq_fault.specs.Types.{Moment, Watch}
 use Rattle.seq_fault.proofs.Stepping.{each-hand}
 
 module _ {Call : Type 0} (o : Obj Call) (size : ℕ) (k : Plan) where

@@ -8,17 +8,10 @@ use lib.ListN.{get_elem?}
 use lib.Seq.{set-get_or}
 use Rattle.atomic_table.specs.Table.{Me, step, keeps}
 use Rattle.atomic_table.proofs.Lists.{at_map, set_again}
-use Rattle.word_bits.specs.declared.entry.Entry.{Entry}
 use Rattle.word_bits.specs.EntryWord.{entry_word}
 use Rattle.word_bits.specs.Objects.{Obj}
 use Rattle.word_bits.specs.Histories.{Plan}
 use Rattle.lock_core.specs.declared.layout.TheConstants.{LOCK_WORDS, LENGTH_AT}
-use Rattle.lock_core.specs.declared.op.Op.{Op}
-use Rattle.lock_core.specs.declared.op.Op.TheVariants.{Load, Add, Exchange}
-use Rattle.lock_core.specs.declared.view.Hand.{Hand}
-use Rattle.lock_core.specs.declared.view.Held.{Held}
-use Rattle.lock_core.specs.declared.view.Held.TheVariants.{No, Shared, Alone}
-use Rattle.lock_core.specs.declared.view.Stage.TheVariants.{Rest}
 use Rattle.lock_core.specs.Layout.{lay, site}
 use Rattle.lock_core.specs.Ops.{word_after}
 use Rattle.lock_core.specs.Views.{hand_of, held_of, alone_of, owed_of, entry_of, ticked, took, held_weight, alone_weight}
@@ -38,12 +31,10 @@ use Rattle.lock_core.proofs.RowLaws.{some-inside}
 use Rattle.lock_core.proofs.SeatSteps.{site-rehands}
 use Rattle.lock_core.proofs.Steps.{chooses}
 use Rattle.lock_core.proofs.WordSteps.{some-of}
-use Rattle.seq_fault.specs.declared.view.Glance.{Glance}
-use Rattle.seq_fault.specs.declared.view.Watch.{Watch}
-use Rattle.seq_fault.specs.declared.view.Watch.TheVariants.{Off, On}
 use Rattle.seq_fault.specs.Watches.{Fits, GlanceOk, IsAsThen, WatchOk}
 use Rattle.seq_fault.specs.SeqRuled.{V, SeqKept, SeqMoves, never, seq_at}
 use Rattle.seq_fault.specs.Laws.SeqRuled.{no-shared, none-alone, rule-goes, watch-rises}
+use Rattle.seq_fault.specs.Types.{Entry, Op, Load, Add, Exchange, Hand, Held, No, Shared, Alone, Rest, Glance, Watch, Off, On}
 use Rattle.seq_fault.specs.SeqPlays as play
 
 its-plan : (k p : Plan) (plan : Option Plan) → HasPlan k plan → plan ≡ Some p → k ≡ p

@@ -3,10 +3,6 @@ use Rattle.std.specs.Prelude.{◌≡◌, ℕ, ◌+◌, List, Option}
 use Rattle.word_bits.specs.LockWords.{Unavailable}
 use Rattle.word_bits.specs.Objects.{Obj}
 use Rattle.word_bits.specs.Histories.{Plan}
-use Rattle.lock_core.specs.declared.view.Hand.{Hand}
-use Rattle.lock_core.specs.declared.view.Held.{Held}
-use Rattle.lock_core.specs.declared.view.Moment.{Moment}
-use Rattle.lock_core.specs.declared.view.Past.{Past}
 use Rattle.lock_core.specs.SiteHandles as inner
 use Rattle.lock_core.specs.Shown as callers
 use Rattle.lock_core.specs.Shown.{Shown, no_line, shown}
@@ -15,6 +11,7 @@ use Rattle.seq_fault.specs.declared.site.SeqSite.{SeqSite}
 use Rattle.seq_fault.specs.SeqRuled.{V}
 use Rattle.seq_fault.specs.SeqSteps as single
 use Rattle.seq_fault.specs.SeqSteps.{AtOneWord}
+use Rattle.seq_fault.specs.Types.{Hand, Held, Moment, Past}
 
 module _ {O C : Type 0} where
   -- the calls that the site's tasks make

@@ -1,20 +1,15 @@
 -- What a step tells its pass, of a table with a sequence word.
 use Rattle.std.specs.Prelude.{◌≡◌, ◌≢◌, ◌≤◌, ◌⊎◌, ℕ, ◌+◌, ◌-◌, ◌%◌, true, false, List, length, slice_index, Some}
 use Rattle.atomic_table.specs.Table.{Step}
-use Rattle.word_bits.specs.declared.entry.Entry.{Entry}
 use Rattle.word_bits.specs.Objects.{Obj}
 use Rattle.word_bits.specs.Histories.{Plan}
-use Rattle.lock_core.specs.declared.view.Hand.{Hand}
-use Rattle.lock_core.specs.declared.view.Held.TheVariants.{Alone}
 use Rattle.lock_core.specs.declared.layout.TheConstants.{LOCK_WORDS}
 use Rattle.lock_core.specs.Holding.{Learns, released}
 use Rattle.lock_core.specs.Plans.{calls_in}
 use Rattle.lock_core.specs.SitePlays.{Sat, Turns}
 use Rattle.lock_core.specs.Views.{handed, ticked, took}
-use Rattle.seq_fault.specs.declared.view.Glance.{Glance}
-use Rattle.seq_fault.specs.declared.view.Watch.{Watch}
-use Rattle.seq_fault.specs.declared.view.Watch.TheVariants.{Off, On}
 use Rattle.seq_fault.specs.SeqRuled.{V}
+use Rattle.seq_fault.specs.Types.{Entry, Hand, Alone, Glance, Watch, Off, On}
 
 -- a step after which the pass knows this beyond
 abbrev pub turned : V → Hand → Watch → V

@@ -3,9 +3,7 @@ use Rattle.std.specs.Prelude.{◌≡◌, ◌≢◌, ◌⊎◌, ℕ, ◌+◌, ◌
 use Rattle.word_bits.specs.LockWords.{Unavailable}
 use Rattle.word_bits.specs.Objects.{Obj}
 use Rattle.word_bits.specs.Histories.{Plan}
-use Rattle.lock_core.specs.declared.view.View.{View}
-use Rattle.lock_core.specs.declared.view.Held.TheVariants.{Shared}
-use Rattle.lock_core.specs.declared.view.Moment.{Moment}
+use Rattle.seq_fault.specs.Types.{View, Shared, Moment, Watch, Off}
 use Rattle.lock_core.specs.declared.layout.TheConstants.{SPIN_ROOM}
 use Rattle.lock_core.specs.Layout.{site, width}
 use Rattle.lock_core.specs.Views.{hand_of, alone_of}
@@ -14,8 +12,6 @@ use Rattle.lock_core.specs.Moves.{SiteMoveWhere}
 use Rattle.lock_core.specs.ViewParts.{Each}
 use Rattle.lock_core.specs.Pasts.{opening}
 use Rattle.lock_core.specs.Totals.{total}
-use Rattle.seq_fault.specs.declared.view.Watch.{Watch}
-use Rattle.seq_fault.specs.declared.view.Watch.TheVariants.{Off}
 use Rattle.seq_fault.specs.Watches.{WatchOk}
 
 -- the place of the sequence word

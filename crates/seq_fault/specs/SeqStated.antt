@@ -2,9 +2,6 @@
 use Rattle.std.specs.Prelude.{◌≡◌, ◌≢◌, ℕ, ◌+◌, ◌-◌, ◌*◌, ◌%◌, ◌≤◌, List, [], ◌∷◌, take, slice_get, slice_index, Some}
 use Rattle.word_bits.specs.Objects.{Obj}
 use Rattle.word_bits.specs.Histories.{Plan, state_after}
-use Rattle.lock_core.specs.declared.view.Hand.{Hand}
-use Rattle.lock_core.specs.declared.view.Held.TheVariants.{Shared}
-use Rattle.lock_core.specs.declared.view.Moment.{Moment}
 use Rattle.lock_core.specs.Layout.{site}
 use Rattle.lock_core.specs.ViewParts.{Each}
 use Rattle.lock_core.specs.Sites.{SameObject}
@@ -12,6 +9,7 @@ use Rattle.lock_core.specs.SiteStated.{IsSite}
 use Rattle.lock_core.specs.Totals.{total}
 use Rattle.lock_core.specs.Views.{alone_of}
 use Rattle.seq_fault.specs.SeqRuled.{never, seq_at}
+use Rattle.seq_fault.specs.Types.{Hand, Shared, Moment}
 
 abbrev pub seq_of : Moment → ℕ
 seq_of m = slice_index m.words seq_at

@@ -1,30 +1,18 @@
 -- What the steps of a table with a sequence word leave.
 use Rattle.std.specs.Prelude.{◌<◌, ◌≡◌, ◌≢◌, ◌⊎◌, ℕ, ◌+◌, ◌%◌, ◌≤◌, Bool, false, List, length, take, slice_get, Some}
-use Rattle.word_bits.specs.declared.entry.Entry.{Entry}
-use Rattle.word_bits.specs.declared.call.CallWords.{CallWords}
-use Rattle.word_bits.specs.declared.reply.Reply.{Reply}
 use Rattle.word_bits.specs.Objects.{Obj}
 use Rattle.word_bits.specs.Histories.{Plan, state_after}
-use Rattle.lock_core.specs.declared.pass.Pass.{Pass}
-use Rattle.lock_core.specs.declared.view.Hand.{Hand}
-use Rattle.lock_core.specs.declared.view.Held.TheVariants.{Alone}
-use Rattle.lock_core.specs.declared.view.Moment.{Moment}
 use Rattle.lock_core.specs.SiteHandles.{hand_in, past_of, view_of}
 use Rattle.lock_core.specs.Records.{row}
 use Rattle.lock_core.specs.Holding.{Learns}
 use Rattle.lock_core.specs.Layout.{length_place}
 use Rattle.lock_core.specs.Pasts.{FoundAtStep}
 use Rattle.lock_core.specs.Views.{handed, next_entry, ticked, took, after_seen}
-use Rattle.seq_fault.specs.declared.view.Glance.{Glance}
-use Rattle.seq_fault.specs.declared.view.Watch.{Watch}
-use Rattle.seq_fault.specs.declared.view.Watch.TheVariants.{Off, On}
-use Rattle.vma_map.specs.declared.call.SpaceCall.{SpaceCall}
-use Rattle.vma_map.specs.declared.call.SpaceCall.TheVariants.{Fault}
-use Rattle.vma_map.specs.declared.search.Search.{Search}
 use Rattle.vma_map.specs.Searches.{AgreesWith, asked}
 use Rattle.vma_map.specs.Spaces.{access_reply, call_of, meaning, space}
 use Rattle.seq_fault.specs.SeqPlays.{turned, glance, staled}
 use Rattle.seq_fault.specs.SeqRuled.{V, seq_at}
+use Rattle.seq_fault.specs.Types.{Entry, CallWords, Reply, Pass, Hand, Alone, Moment, Glance, Watch, Off, On, SpaceCall, Fault, Search}
 
 -- it holds alone, and has learnt what the lock guards
 abbrev pub EntersHold : {Call : Type 0} → Obj Call → Plan → V → V → Type 0

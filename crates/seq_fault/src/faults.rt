@@ -1,11 +1,11 @@
 //! Faults without the lock.
 ghost use Rattle.std.specs.Prelude.{◌≡◌, ◌+◌, ◌≤◌, IsSome, IfOk, IfErr};
-ghost use Rattle.lock_core.specs.declared.view.Held.TheVariants.{No};
 ghost use Rattle.lock_core.specs.Pasts.{FoundAt};
 ghost use Rattle.lock_core.specs.Views.{OwesNoSignal, ticked};
 ghost use Rattle.seq_fault.specs.SeqHandles.{plan_of, view_of, hand_in, past_of, task_in, held_in, done_in, front_in, FindsAtStep, IsLatest, ReadsAtOneWord, SaysSame, SitsAt, StepsOn};
 ghost use Rattle.seq_fault.specs.SeqRuled.{V, seq_at};
 ghost use Rattle.seq_fault.specs.SeqSteps.{AtOneWord, Faults, HasNextFault, IsRace, OnlySteps};
+ghost use Rattle.seq_fault.specs.Types.{No};
 
 use crate::reading::{next_fault, read_optimistically, validate};
 use crate::site::{SeqPass, SeqSite};

@@ -1,6 +1,5 @@
 //! What a fault reads without the lock.
 ghost use Rattle.std.specs.Prelude.{◌≡◌, ◌≢◌, ◌≤◌, ℕ, ◌+◌, ◌%◌, List, None, IsSome, IfOk, IfErr};
-ghost use Rattle.lock_core.specs.declared.view.Held.TheVariants.{No};
 ghost use Rattle.lock_core.specs.Layout.{length_place};
 ghost use Rattle.lock_core.specs.SiteHandles.{IsLatest, plan_of, view_of, hand_in, past_of, task_in, held_in, done_in, front_in, SitsAt, StepsAt, SaysSame};
 ghost use Rattle.lock_core.specs.Pasts.{FoundAt};
@@ -9,10 +8,10 @@ ghost use Rattle.word_bits.specs.PageMaps.{PageMap, IsPageMap};
 ghost use Rattle.vma_map.specs.Searches.{AgreesWith, asked, page_of, wanted};
 ghost use Rattle.vma_map.specs.Spaces.{IsAccess, access_reply, stores};
 ghost use Rattle.seq_fault.specs.declared.view.Glance.{Glance as Moment};
-ghost use Rattle.seq_fault.specs.declared.view.Watch.TheVariants.{Off, On};
 ghost use Rattle.seq_fault.specs.SeqPlays.{turned};
 ghost use Rattle.seq_fault.specs.SeqRuled.{seq_at};
 ghost use Rattle.seq_fault.specs.SeqSteps.{Faults, FindsAtStep, HasNextFault, HasSearched, IsNextFault, IsOptimisticRead, IsWatching, StepsAtMost};
+ghost use Rattle.seq_fault.specs.Types.{No, Off, On};
 
 use crate::rule::SeqRule;
 use crate::steps::{self, Raced};
@@ -24,7 +23,7 @@ use word_bits::Reply;
 fn search_words(site: &Site<SeqRule<Areas>>, pass: &mut Pass<SeqRule<Areas>>, search: &mut Search)
     requires own { SitsAt site.now pass.old }
     requires latest { IsLatest pass.old }
-    requires on { IsWatching (view_of pass.old) }
+    requires watching { IsWatching (view_of pass.old) }
     requires begins { asked search.old ≡ 0 }
     requires agrees { (words : List ℕ) → AgreesWith words search.old }
     ensures on { StepsAt site.now pass.old pass.new }

@@ -1,8 +1,8 @@
 //! The rule of a table with a sequence word.
 ghost use Rattle.std.specs.Prelude.{true};
-ghost use Rattle.seq_fault.specs.declared.view.Watch.TheVariants.{Off};
 ghost use Rattle.seq_fault.specs.SeqRuled.{SeqKept, SeqMoves, never, seq_at, unmarked};
 ghost use Rattle.seq_fault.specs.Laws.SeqRuled.{rule-site, rule-sites, rule-opens, rule-splits, rule-joins};
+ghost use Rattle.seq_fault.specs.Types.{Off};
 
 use crate::view::Watch;
 use lock_core::{SPIN_ROOM, SiteRule};

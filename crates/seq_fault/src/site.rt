@@ -1,16 +1,15 @@
 //! Sites with a sequence word.
 ghost use Rattle.std.specs.Prelude.{◌≡◌, ◌<◌, ◌≤◌, ℕ, false, true, None, IsSome, IfOk, [], ◌∷◌, length};
-ghost use Rattle.lock_core.specs.declared.view.Held.TheVariants.{No, Alone};
 ghost use Rattle.lock_core.specs.Holding.{released};
 ghost use Rattle.lock_core.specs.Records.{IsPlan};
 ghost use Rattle.lock_core.specs.Views.{first, ticked, handed, split_off, merged, gave_up, BesideForgetting, HoldsNothing, OwesNoSignal};
 ghost use Rattle.lock_core.specs.Pasts.{BeganWith, EachMoment, KeepsJoined, Paced};
 ghost use Rattle.lock_core.specs.SiteStated.{IsNew};
 ghost use Rattle.lock_core.specs.Locked.{IsSiteStepWhere};
-ghost use Rattle.seq_fault.specs.declared.view.Watch.TheVariants.{Off};
 ghost use Rattle.seq_fault.specs.SeqRuled.{never, newest, seq_at};
 ghost use Rattle.seq_fault.specs.SeqStated.{CountsEnters, IsSeqSiteThen, StaysAtOneWord};
 ghost use Rattle.seq_fault.specs.SeqSteps.{EntersSince};
+ghost use Rattle.seq_fault.specs.Types.{No, Alone, Off};
 
 use crate::rule::SeqRule;
 use crate::steps;

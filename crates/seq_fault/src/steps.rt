@@ -1,6 +1,5 @@
 //! The single steps on a table with a sequence word.
 ghost use Rattle.std.specs.Prelude.{◌≡◌, ◌≢◌, ◌+◌, ◌%◌, ◌<◌, ◌≤◌, false, true, length, slice_index, IsSome, IfOk, IfErr};
-ghost use Rattle.lock_core.specs.declared.view.Held.TheVariants.{No, Alone};
 ghost use Rattle.lock_core.specs.declared.layout.TheConstants.{LOCK_WORDS};
 ghost use Rattle.lock_core.specs.Holding.{released};
 ghost use Rattle.lock_core.specs.Layout.{length_place};
@@ -9,10 +8,10 @@ ghost use Rattle.lock_core.specs.Pasts.{FoundAt};
 ghost use Rattle.lock_core.specs.Views.{handed, ticked};
 ghost use Rattle.lock_core.specs.SiteHandles.{plan_of, view_of, hand_in, past_of, task_in, held_in, done_in, SitsAt, StepsAt, SaysSame};
 ghost use Rattle.seq_fault.specs.declared.view.Glance.{Glance as Moment};
-ghost use Rattle.seq_fault.specs.declared.view.Watch.TheVariants.{Off, On};
 ghost use Rattle.seq_fault.specs.SeqPlays.{turned, saw_log, Looked, Entered, Left, Watched, Peeked, Measured, Confirmed};
 ghost use Rattle.seq_fault.specs.SeqSteps.{Begins, EntersHold, IsWatching, TellsSince, IsMeasured};
 ghost use Rattle.seq_fault.specs.SeqRuled.{seq_at};
+ghost use Rattle.seq_fault.specs.Types.{No, Alone, Off, On};
 
 use crate::rule::{SEQUENCE, SeqRule};
 use crate::view::Watch;
@@ -145,7 +144,7 @@ pub(crate) fn peek<O: Object>(
 ) -> u64
     requires own { SitsAt site.now pass.old }
     requires inside { at < O.WORDS }
-    requires on { IsWatching (view_of pass.old) }
+    requires watching { IsWatching (view_of pass.old) }
     ensures on { StepsAt site.now pass.old pass.new }
     ensures face { SaysSame pass.old pass.new }
     ensures told { TellsSince (λ g. result ≡ slice_index g.known at)
@@ -157,7 +156,7 @@ pub(crate) fn peek<O: Object>(
 /// Loads the length of the log without the lock.
 pub(crate) fn measure<O: Object>(site: &Site<SeqRule<O>>, pass: &mut Pass<SeqRule<O>>) -> u64
     requires own { SitsAt site.now pass.old }
-    requires on { IsWatching (view_of pass.old) }
+    requires watching { IsWatching (view_of pass.old) }
     ensures on { StepsAt site.now pass.old pass.new }
     ensures face { SaysSame pass.old pass.new }
     ensures small { result ≤ calls_in (plan_of site.now) }
@@ -177,7 +176,7 @@ pub(crate) fn confirm<O: Object>(
     front: u32,
 ) -> Result<(), Raced>
     requires own { SitsAt site.now pass.old }
-    requires on { IsWatching (view_of pass.old) }
+    requires watching { IsWatching (view_of pass.old) }
     requires measured { IsMeasured before front (view_of pass.old) }
     requires out { held_in pass.old ≡ No }
     ensures on { StepsAt site.now pass.old pass.new }

@@ -1,9 +1,9 @@
 //! Changing calls.
 ghost use Rattle.std.specs.Prelude.{◌≡◌, ◌+◌, IsSome};
-ghost use Rattle.lock_core.specs.declared.view.Held.TheVariants.{No};
 ghost use Rattle.lock_core.specs.Views.{Beside, OwesNoSignal};
 ghost use Rattle.seq_fault.specs.SeqHandles.{plan_of, view_of, hand_in, task_in, held_in, done_in, IsLatest, SitsAt, StepsOn};
 ghost use Rattle.seq_fault.specs.SeqWriting.{HasNextChange, Writes};
+ghost use Rattle.seq_fault.specs.Types.{No};
 
 use crate::site::{SeqPass, SeqSite};
 use crate::writing::change;

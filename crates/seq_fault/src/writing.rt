@@ -1,10 +1,10 @@
 //! A changing call on the guarded words of a site whose pass holds alone.
 ghost use Rattle.std.specs.Prelude.{◌≡◌, ◌≢◌, length, false, IfNone, IfSome, IsSome};
-ghost use Rattle.lock_core.specs.declared.view.Held.TheVariants.{Alone};
 ghost use Rattle.lock_core.specs.Locking.{IsStored};
 ghost use Rattle.lock_core.specs.Views.{Beside, OwesNoSignal};
 ghost use Rattle.lock_core.specs.SiteHandles.{plan_of, view_of, hand_in, task_in, held_in, done_in, SitsAt, KeepsPast, SaysSame};
 ghost use Rattle.seq_fault.specs.SeqWriting.{Changes, HasNextChange, SameCall};
+ghost use Rattle.seq_fault.specs.Types.{Alone};
 
 use crate::rule::SeqRule;
 use lock_core::{Pass, Site};

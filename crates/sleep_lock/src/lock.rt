@@ -41,6 +41,10 @@ pub trait SleepLock<O: Object>: SiteLock<O> {
     // A new table with this plan.
     ghost opened: { Calls → Moment };
 
+    // The moments of the spin queue of a new lock with this plan: one, or none where the lock has
+    // no such queue.
+    ghost opened_queue: { Calls → List Moment };
+
     // The tasks that wait for the lock, first to last.
     ghost waits: { Calls → Moment → List ℕ → Type 0 };
 
@@ -80,15 +84,18 @@ pub trait SleepLock<O: Object>: SiteLock<O> {
         ensures new { IfOk result (λ _. IsNew O.object O.WORDS plan (opened plan)) }
         ensures view { IfOk result (λ t.
             Self.view t.1 ≡ shown_new (Some plan) [] (opened plan ∷ [])) }
+        ensures unspun { IfOk result (λ t. spun t.1 ≡ opened_queue plan) }
         ensures fresh { IfOk result (λ t. dozes t.1 ≡ 0) };
 
     /// A pass without a task number, which has seen as many entries.
     fn split(&self, pass: &mut Self::Pass) -> Self::Pass
         requires own { Self.sits self.now pass.old }
         ensures on { StepsOn Self.sits Self.view self.now pass.old pass.new }
+        ensures queue { GoesOn (spun pass.old) (spun pass.new) }
         ensures its_own { Self.sits self.now result }
         ensures kept { Looks (Self.view pass.old) (Self.view pass.new) }
         ensures given { Self.view result ≡ shown_split (Self.view pass.old) }
+        ensures its_queue { spun result ≡ spun pass.old }
         ensures still { dozes pass.new ≡ dozes pass.old }
         ensures fresh { dozes result ≡ 0 };
 
@@ -187,6 +194,7 @@ pub trait SleepLock<O: Object>: SiteLock<O> {
         ensures on { StepsOn Self.sits Self.view self.now pass.old pass.new }
         ensures dozed { Dozes (C.C.sleeps cpu.old) (C.C.sleeps cpu.new)
             (dozes pass.old) (dozes pass.new) }
+        ensures queue { GoesOn (spun pass.old) (spun pass.new) }
         ensures took { Takes O.object (Self.calls_on self.now) (shares kind)
             (Self.view pass.old) (Self.view pass.new) }
         ensures how { Got result (Self.view pass.old) (Self.view pass.new) }
@@ -232,6 +240,7 @@ pub trait SleepLock<O: Object>: SiteLock<O> {
         ensures on { StepsOn Self.sits Self.view self.now pass.old pass.new }
         ensures dozed { Dozes (C.C.sleeps cpu.old) (C.C.sleeps cpu.new)
             (dozes pass.old) (dozes pass.new) }
+        ensures queue { GoesOn (spun pass.old) (spun pass.new) }
         ensures took { IfOk result (λ _. Takes O.object (Self.calls_on self.now) (shares kind)
             (Self.view pass.old) (Self.view pass.new)) }
         ensures how { IfOk result (λ how. Got how (Self.view pass.old) (Self.view pass.new)) }
@@ -259,6 +268,7 @@ pub trait SleepLock<O: Object>: SiteLock<O> {
         ensures on { StepsOn Self.sits Self.view self.now pass.old pass.new }
         ensures dozed { Dozes (C.C.sleeps cpu.old) (C.C.sleeps cpu.new)
             (dozes pass.old) (dozes pass.new) }
+        ensures queue { GoesOn (spun pass.old) (spun pass.new) }
         ensures took { IfOk result (λ _. Takes O.object (Self.calls_on self.now) Alone
             (Self.view pass.old) (Self.view pass.new)) }
         ensures how { IfOk result (λ how. Got how (Self.view pass.old) (Self.view pass.new)) }
@@ -278,6 +288,7 @@ pub trait SleepLock<O: Object>: SiteLock<O> {
         requires numbered { IsSome (Self.view pass.old).hand.task }
         requires out { (Self.view pass.old).hand.held ≡ No }
         ensures on { StepsOn Self.sits Self.view self.now pass.old pass.new }
+        ensures queue { GoesOn (spun pass.old) (spun pass.new) }
         ensures took { IfOk result (λ _. Takes O.object (Self.calls_on self.now) (shares kind)
             (Self.view pass.old) (Self.view pass.new)) }
         ensures at_once { IfOk result (λ _. Got Fast (Self.view pass.old) (Self.view pass.new)) }
@@ -291,6 +302,7 @@ pub trait SleepLock<O: Object>: SiteLock<O> {
         requires numbered { IsSome (Self.view pass.old).hand.task }
         requires out { (Self.view pass.old).hand.held ≡ No }
         ensures on { StepsOn Self.sits Self.view self.now pass.old pass.new }
+        ensures queue { GoesOn (spun pass.old) (spun pass.new) }
         ensures took { IfOk result (λ _. Takes O.object (Self.calls_on self.now) Alone
             (Self.view pass.old) (Self.view pass.new)) }
         ensures at_once { IfOk result (λ _. Got Fast (Self.view pass.old) (Self.view pass.new)) }
@@ -305,6 +317,7 @@ pub trait SleepLock<O: Object>: SiteLock<O> {
         requires held { (Self.view pass.old).hand.held ≡ shares kind }
         requires quiet { (Self.view pass.old).hand.writes ≡ false }
         ensures on { StepsOn Self.sits Self.view self.now pass.old pass.new }
+        ensures queue { GoesOn (spun pass.old) (spun pass.new) }
         ensures released { Releases (wakes_shared kind) (Self.view pass.old) (Self.view pass.new) }
         ensures left { ends_shared (Self.view pass.old) (Self.view pass.new) }
         ensures still { dozes pass.new ≡ dozes pass.old };
@@ -326,6 +339,7 @@ pub trait SleepLock<O: Object>: SiteLock<O> {
         requires held { (Self.view pass.old).hand.held ≡ Alone }
         requires quiet { (Self.view pass.old).hand.writes ≡ false }
         ensures on { StepsOn Self.sits Self.view self.now pass.old pass.new }
+        ensures queue { GoesOn (spun pass.old) (spun pass.new) }
         ensures downgraded { Downgrades kind (Self.view pass.old) (Self.view pass.new) }
         ensures left { turns_shared (Self.view pass.old) (Self.view pass.new) }
         ensures still { dozes pass.new ≡ dozes pass.old };

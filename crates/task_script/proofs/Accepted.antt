@@ -6,19 +6,13 @@ use Rattle.std.proofs.lemmas.Slice.Eq.{bytes_eq-Decides}
 use Rattle.std.specs.Char.{is_ascii_digit}
 use Rattle.std.proofs.lemmas.Bool.Decides.{nat_tests}
 use Rattle.std.proofs.lemmas.Option.{same_Some}
-use Rattle.word_bits.specs.declared.call.CallWords.{CallWords}
-use Rattle.word_bits.specs.declared.call.Mode.{Mode}
-use Rattle.word_bits.specs.declared.kind.CallKind.{CallKind}
-use Rattle.word_bits.specs.declared.kind.CallKind.TheVariants.{Map, MapAny, MapNew, Unmap, Protect, Populate, Fault, Open, Close, Dup, Dup2, Get, Remap, Signal}
-use Rattle.task_script.specs.declared.reason.Reason.{Reason}
-use Rattle.task_script.specs.declared.reason.Reason.TheVariants.{Words, Call, Mode as NoMode, Number, Limit, Prot, Access}
+use Rattle.task_script.specs.declared.reason.Reason.TheVariants.{Mode as NoMode}
 use Rattle.task_script.specs.declared.version.Version.{Version}
-use Rattle.task_script.specs.declared.verb.Argument.{Argument}
-use Rattle.task_script.specs.declared.verb.Argument.TheVariants.{First, Second, Third, File, Target, Protection, AccessBit}
-use Rattle.task_script.specs.declared.verb.Values.{Values}
 use Rattle.task_script.specs.Tokens.{number, access, flag, all_flags, prot, leads_zero, value_after}
 use Rattle.task_script.specs.Verbs.{and_then, number_below, with_argument, with_arguments, arguments_of, no_values, is_on_kind, takes_mode, space_verb, table_verb, verb_of, Begun, with_any, call_with, call_on, call_words_of}
 use Rattle.task_script.specs.Sound.{IsAccess, IsInRange, only, IsCall}
+use Rattle.task_script.specs.Types.{CallWords, Mode, CallKind, Map, MapAny, MapNew, Unmap, Protect, Populate, Fault, Open, Close, Dup, Dup2, Get, Remap, Signal, Reason, Words, Call, Number}
+use Rattle.task_script.specs.Types.{Limit, Prot, Access, Argument, First, Second, Third, File, Target, Protection, AccessBit, Values}
 use Rattle.task_script.specs.Versions.{has_remap, most_tasks}
 
 -- what was accepted at last was so at first

@@ -7,20 +7,12 @@ use Rattle.std.specs.Str.{bytes_eq}
 use Rattle.std.proofs.lemmas.Bool.{cases_Bool}
 use Rattle.std.proofs.lemmas.Bool.Decides.{nat_tests}
 use Rattle.std.proofs.lemmas.List.{length-map}
-use Rattle.word_bits.specs.declared.call.CallWords.{CallWords}
-use Rattle.word_bits.specs.declared.call.Mode.{Mode}
-use Rattle.word_bits.specs.declared.call.Mode.TheVariants.{Plain, Int, Try}
-use Rattle.word_bits.specs.declared.kind.CallKind.{CallKind}
-use Rattle.word_bits.specs.declared.kind.CallKind.TheVariants.{Map, MapAny, MapNew, Unmap, Protect, Populate, Fault, Open, Close, Dup, Dup2, Get, Remap, Signal}
+use Rattle.word_bits.specs.declared.call.Mode.TheVariants.{Int, Try}
 use Rattle.word_bits.specs.CallKinds.{kind_number, kind_of_number}
 use Rattle.word_bits.proofs.CallKinds.{kind_number-lt, kind_of_number-kind_number}
 use Rattle.word_bits.specs.Calls.{mode_of, mode_number}
 use Rattle.word_bits.proofs.Modes.{mode_number-lt}
 use Rattle.task_script.specs.declared.version.Version.{Version}
-use Rattle.task_script.specs.declared.version.Version.TheVariants.{One, Two}
-use Rattle.task_script.specs.declared.verb.Argument.{Argument}
-use Rattle.task_script.specs.declared.verb.Argument.TheVariants.{First, Second, Third, File, Target, Protection, AccessBit}
-use Rattle.task_script.specs.declared.verb.Values.{Values}
 use Rattle.task_script.specs.Cuts.{is_clean, words}
 use Rattle.task_script.specs.Tokens.{number, prot, access}
 use Rattle.task_script.specs.Verbs.{with_argument, with_arguments, arguments_of, no_values, is_on_kind, takes_mode, verb_text, call_with, call_on, call_words_of}
@@ -30,6 +22,8 @@ use Rattle.task_script.specs.Texts.{prot_text, access_text, argument_text, argum
 use Rattle.task_script.proofs.Accepted.{text_same}
 use Rattle.task_script.proofs.Decimals.{number-decimal, digits-decimal, some-decimal}
 use Rattle.task_script.specs.Padding.{is_visible}
+use Rattle.task_script.specs.Types.{CallWords, Mode, Plain, CallKind, Map, MapAny, MapNew, Unmap, Protect, Populate, Fault, Open, Close, Dup, Dup2, Get, Remap, Signal, One, Two, Argument}
+use Rattle.task_script.specs.Types.{First, Second, Third, File, Target, Protection, AccessBit, Values}
 use Rattle.task_script.proofs.Splitting.{words-cut, words-visible, clean-visible, clean-append}
 
 -- values whose fields can be packed

@@ -3,13 +3,9 @@ use Rattle.std.proofs.Common.{◌≡◌, ℕ, ◌+◌, ◌*◌, ◌<◌, ◌≤�
 use Rattle.std.proofs.lemmas.List.Sums.{sum_by-cons, sum_by-append, prefix_len-le-length}
 use Rattle.std.proofs.lemmas.List.Folds.{length-prefix_len}
 use Rattle.std.specs.List.{AllByRecursion, slice_split, onto_first, list_all}
-use Rattle.word_bits.specs.declared.call.Mode.{Mode}
-use Rattle.word_bits.specs.declared.call.Mode.TheVariants.{Plain, Int, Try}
+use Rattle.word_bits.specs.declared.call.Mode.TheVariants.{Int, Try}
 use Rattle.task_script.specs.declared.script.Line.{Line}
-use Rattle.task_script.specs.declared.version.Version.TheVariants.{Two}
-use Rattle.task_script.specs.declared.reason.Reason.{Reason}
-use Rattle.task_script.specs.declared.reason.Reason.TheVariants.{Byte, Version as NoVersion, Place, Name, Twice, Limit, Unknown}
-use Rattle.task_script.specs.declared.token.Keyword.{Keyword}
+use Rattle.task_script.specs.declared.reason.Reason.TheVariants.{Version as NoVersion}
 use Rattle.task_script.specs.declared.token.Keyword.TheVariants.{Version as KVersion, Space as KSpace, Table as KTable, Task as KTask, Int as KInt, Try as KTry}
 use Rattle.task_script.specs.Cuts.{is_blank, is_empty, is_plain, lines, without_return, words}
 use Rattle.task_script.specs.Tokens.{is_name, keyword_of}
@@ -18,6 +14,7 @@ use Rattle.std.specs.Str.{bytes_eq}
 use Rattle.task_script.specs.Versions.{most_objects, most_tasks}
 use Rattle.task_script.specs.Scripts.{Listing, nothing, count_of_calls}
 use Rattle.task_script.specs.Grammar.{place_of, with_call, line_of, is_space_at, is_begun, version_line, declare_line, task_line, object_line, call_line, line_of_words, line_after, said, text_after, then_lines, lines_after}
+use Rattle.task_script.specs.Types.{Mode, Plain, Two, Reason, Byte, Place, Name, Twice, Limit, Unknown, Keyword}
 use Rattle.task_script.proofs.Accepted.{and_then_ok, unless_refused, accepted_call}
 
 -- the bytes of parts, each with the one that closes it

@@ -7,18 +7,13 @@ use Rattle.std.specs.Fmt.{digits, digits_onto, digit_glyph}
 use Rattle.std.proofs.lemmas.Bool.{and_from}
 use Rattle.std.proofs.lemmas.Bool.Decides.{nat_tests}
 use Rattle.std.proofs.lemmas.List.Folds.{list_all-append}
-use Rattle.word_bits.specs.declared.call.CallWords.{CallWords}
-use Rattle.word_bits.specs.declared.call.Mode.{Mode}
-use Rattle.word_bits.specs.declared.call.Mode.TheVariants.{Plain, Int, Try}
-use Rattle.word_bits.specs.declared.kind.CallKind.{CallKind}
-use Rattle.word_bits.specs.declared.kind.CallKind.TheVariants.{Map, MapAny, MapNew, Unmap, Protect, Populate, Fault, Open, Close, Dup, Dup2, Get, Remap, Signal}
+use Rattle.word_bits.specs.declared.call.Mode.TheVariants.{Int, Try}
 use Rattle.word_bits.specs.CallKinds.{kind_of_number}
 use Rattle.word_bits.specs.Calls.{mode_of}
-use Rattle.task_script.specs.declared.verb.Argument.{Argument}
-use Rattle.task_script.specs.declared.verb.Argument.TheVariants.{First, Second, Third, File, Target, Protection, AccessBit}
-use Rattle.task_script.specs.declared.verb.Values.{Values}
 use Rattle.task_script.specs.Verbs.{verb_text, arguments_of}
 use Rattle.task_script.specs.Texts.{mode_text, letter, prot_text, access_text, values_of, argument_text, arguments_text, bare_text, call_text}
+use Rattle.task_script.specs.Types.{CallWords, Mode, Plain, CallKind, Map, MapAny, MapNew, Unmap, Protect, Populate, Fault, Open, Close, Dup, Dup2, Get, Remap, Signal, Argument, First}
+use Rattle.task_script.specs.Types.{Second, Third, File, Target, Protection, AccessBit, Values}
 
 -- no line feed and no equals sign
 abbrev pub is_inner : ℕ → Bool

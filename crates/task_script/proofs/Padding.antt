@@ -5,11 +5,11 @@ use Rattle.std.proofs.lemmas.Bool.{and_parts}
 use Rattle.std.proofs.lemmas.Bool.Decides.{nat_tests}
 use Rattle.std.proofs.lemmas.List.{take_at}
 use Rattle.std.proofs.lemmas.List.Elements.{filter-append}
-use Rattle.task_script.specs.declared.reason.Reason.{Reason}
 use Rattle.task_script.specs.Cuts.{is_blank, is_clean, is_empty, is_plain, lines, uncommented, without_return, words}
 use Rattle.task_script.specs.Scripts.{Listing, nothing}
 use Rattle.task_script.specs.Grammar.{Accepted, Refusal, said, line_after, text_after, then_lines, lines_after, script_of}
 use Rattle.task_script.specs.Padding.{IsWord, IsCutOff, AreSpread, IsComment, IsPadded, ArePadded, worded, RefusedAt, outcome, PaddingIsPassedOver}
+use Rattle.task_script.specs.Types.{Reason}
 use Rattle.task_script.proofs.Cutting.{drops_return}
 use Rattle.task_script.proofs.Reading.{short_script}
 use Rattle.task_script.proofs.Splitting.{clean-visible, clean-append, clean_comment, clean_plain, list_all-weaker, said-clean, slice_split-cut, uncommented-clean, words-visible}

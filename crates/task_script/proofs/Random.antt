@@ -7,17 +7,14 @@ use Rattle.arrayvec.specs.ArrayString.{ArrayString}
 use Rattle.std.proofs.lemmas.List.{length-map, map-append}
 use Rattle.std.proofs.lemmas.List.FromFn.{length-map-range_with_len, map-range_with_len_more}
 use Rattle.std.proofs.lemmas.List.Sums.{sum_by-cons}
-use Rattle.word_bits.specs.declared.call.CallWords.{CallWords}
-use Rattle.word_bits.specs.declared.call.Mode.TheVariants.{Plain}
-use Rattle.word_bits.specs.declared.kind.CallKind.TheVariants.{Map, Unmap, Protect, Fault}
 use Rattle.task_script.specs.declared.script.Line.{Line}
-use Rattle.task_script.specs.declared.version.Version.TheVariants.{One}
 use Rattle.task_script.specs.Generated.{generated, next_random, random_access, random_call, random_line, random_lines, random_task, randoms, the_space}
 use Rattle.task_script.specs.declared.script.Kind.{Kind}
 use Rattle.task_script.specs.Inside.{declared_of, listing}
 use Rattle.task_script.specs.Scripts.{Declared, Listing, count_of_calls}
 use Rattle.task_script.specs.Verbs.{call_words_of}
 use Rattle.task_script.specs.Sound.{IsAccess, IsCall, IsLine, IsSound}
+use Rattle.task_script.specs.Types.{CallWords, Plain, Map, Unmap, Protect, Fault, One}
 
 pub randoms_none : (x : ℕ) → randoms x 0 ≡ []
 unfolding randoms

@@ -7,12 +7,10 @@ use Rattle.std.proofs.lemmas.Bool.{and_parts}
 use Rattle.std.proofs.lemmas.Bool.Decides.{nat_tests}
 use Rattle.std.proofs.lemmas.Option.{same_Some}
 use Rattle.std.proofs.lemmas.Slice.Eq.{bytes_eq-Decides}
-use Rattle.word_bits.specs.declared.call.Mode.{Mode}
-use Rattle.word_bits.specs.declared.call.Mode.TheVariants.{Plain, Int, Try}
+use Rattle.word_bits.specs.declared.call.Mode.TheVariants.{Int, Try}
 use Rattle.word_bits.specs.Calls.{mode_of}
 use Rattle.task_script.specs.declared.script.Line.{Line}
 use Rattle.task_script.specs.declared.version.Version.{Version}
-use Rattle.task_script.specs.declared.version.Version.TheVariants.{One, Two}
 use Rattle.task_script.specs.Cuts.{is_clean, is_empty, lines, words}
 use Rattle.task_script.specs.Tokens.{is_lower, is_name_byte, has_name_bytes, is_name, keyword_of}
 use Rattle.task_script.specs.Scripts.{Declared, Listing, nothing, call_words}
@@ -23,6 +21,7 @@ use Rattle.task_script.specs.Grammar.{place_of, with_call, line_of, declare_line
 use Rattle.task_script.proofs.CallTexts.{IsCallText, call_text_is}
 use Rattle.task_script.proofs.Reading.{short_script}
 use Rattle.task_script.specs.Padding.{is_visible}
+use Rattle.task_script.specs.Types.{Mode, Plain, One, Two}
 use Rattle.task_script.proofs.Splitting.{words-cut, words-visible, clean-visible, clean-append, clean_line}
 
 -- reading this text leads from a script to a script, whatever line it begins at and whatever stands behind it

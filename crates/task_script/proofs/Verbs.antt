@@ -2,15 +2,12 @@
 use Rattle.std.proofs.Common.{◌≡◌, ℕ, ◌≤◌, List, [], ◌∷◌, length, drop, refl, sym, ◌∙◌, Ok, Err, Some, None, Bool, true, false, if◌then◌else◌}
 use Rattle.std.proofs.lemmas.List.{at_drop_all}
 use Rattle.task_script.specs.declared.version.Version.{Version}
-use Rattle.task_script.specs.declared.verb.Argument.{Argument}
-use Rattle.task_script.specs.declared.verb.Values.{Values}
-use Rattle.task_script.specs.declared.reason.Reason.TheVariants.{Name, Unknown}
 use Rattle.task_script.specs.Verbs.{no_values, with_arguments}
-use Rattle.word_bits.specs.declared.call.Mode.{Mode}
 use Rattle.task_script.specs.Cuts.{is_empty}
 use Rattle.task_script.specs.Tokens.{is_name}
 use Rattle.task_script.specs.Scripts.{Listing}
 use Rattle.task_script.specs.Grammar.{call_line, object_line, place_of}
+use Rattle.task_script.specs.Types.{Argument, Values, Name, Unknown, Mode}
 
 -- where no argument is left all were read
 no_arguments : (version : Version) (ws : List (List ℕ)) (v : Values) → with_arguments version [] ws v ≡ Ok v

@@ -1,14 +1,11 @@
 -- The script that a number generates: eight tasks on one space, each on pages of its own.
 use Rattle.std.specs.Prelude.{ℕ, ◌+◌, ◌*◌, ◌/◌, ◌%◌, ◌^◌, ◌==◌, nat_lt, zero, suc, true, List, [], ◌∷◌, map, if◌then◌else◌, codes}
 use Rattle.std.specs.List.{range_with_len}
-use Rattle.word_bits.specs.declared.call.CallWords.{CallWords}
-use Rattle.word_bits.specs.declared.call.Mode.TheVariants.{Plain}
-use Rattle.word_bits.specs.declared.kind.CallKind.TheVariants.{Map, Unmap, Protect, Fault}
 use Rattle.task_script.specs.declared.script.Line.{Line}
-use Rattle.task_script.specs.declared.version.Version.TheVariants.{One}
 use Rattle.task_script.specs.Verbs.{call_words_of}
 use Rattle.task_script.specs.Grammar.{line_of}
 use Rattle.task_script.specs.Scripts.{Declared, Listing}
+use Rattle.task_script.specs.Types.{CallWords, Plain, Map, Unmap, Protect, Fault, One}
 
 -- the next number of a linear congruential generator
 abbrev pub next_random : ℕ → ℕ

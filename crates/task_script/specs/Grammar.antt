@@ -4,20 +4,16 @@ use Rattle.std.specs.Prelude.{Err, codes}
 use Rattle.std.specs.List.{list_all}
 use Rattle.std.specs.Option.{option_map_or}
 use Rattle.std.specs.Str.{bytes_eq}
-use Rattle.word_bits.specs.declared.call.CallWords.{CallWords}
-use Rattle.word_bits.specs.declared.call.Mode.{Mode}
-use Rattle.word_bits.specs.declared.call.Mode.TheVariants.{Plain, Int, Try}
+use Rattle.word_bits.specs.declared.call.Mode.TheVariants.{Int, Try}
 use Rattle.task_script.specs.declared.script.Line.{Line}
-use Rattle.task_script.specs.declared.version.Version.TheVariants.{Two}
-use Rattle.task_script.specs.declared.reason.Reason.{Reason}
-use Rattle.task_script.specs.declared.reason.Reason.TheVariants.{TooLong, Byte, Version as NoVersion, Words, Place, Name, Twice, Limit, Unknown}
+use Rattle.task_script.specs.declared.reason.Reason.TheVariants.{Version as NoVersion}
 use Rattle.task_script.specs.Cuts.{is_empty, is_plain, lines, uncommented, without_return, words}
-use Rattle.task_script.specs.declared.token.Keyword.{Keyword}
 use Rattle.task_script.specs.declared.token.Keyword.TheVariants.{Version as KVersion, Space as KSpace, Table as KTable, Task as KTask, Int as KInt, Try as KTry}
 use Rattle.task_script.specs.Tokens.{is_name, keyword_of}
 use Rattle.task_script.specs.Verbs.{and_then, call_on}
 use Rattle.task_script.specs.Versions.{is_second, most_objects, most_tasks}
 use Rattle.task_script.specs.Scripts.{Declared, Listing, nothing}
+use Rattle.task_script.specs.Types.{CallWords, Mode, Plain, Two, Reason, TooLong, Byte, Words, Place, Name, Twice, Limit, Unknown, Keyword}
 
 -- a line that is accepted gives the script with it, any other a reason
 abbrev pub Accepted : Type 0

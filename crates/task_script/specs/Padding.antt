@@ -1,10 +1,10 @@
 -- What may stand around the words of a text without a change of what is read.
 use Rattle.std.specs.Prelude.{◌≡◌, ℕ, ◌-◌, ◌<◌, ◌≤◌, ◌==◌, ◌&&◌, nat_le, not, Bool, true, List, [], ◌∷◌, ◌++◌, filter, length, take, ◌⊎◌, Result, Ok, Err}
 use Rattle.std.specs.List.{list_all}
-use Rattle.task_script.specs.declared.reason.Reason.{Reason}
 use Rattle.task_script.specs.Cuts.{is_blank, is_empty, lines}
 use Rattle.task_script.specs.Scripts.{Listing}
 use Rattle.task_script.specs.Grammar.{Refusal, script_of}
+use Rattle.task_script.specs.Types.{Reason}
 
 -- one of ! to ~, but not #
 abbrev pub is_visible : ℕ → Bool

@@ -1,10 +1,9 @@
 -- What a script says.
 use Rattle.std.specs.Prelude.{ℕ, ◌==◌, Bool, List, [], get_or, length, map, filter, sum_by}
-use Rattle.word_bits.specs.declared.call.CallWords.{CallWords}
+use Rattle.task_script.specs.Types.{CallWords, One}
 use Rattle.word_bits.specs.Histories.{Plan}
 use Rattle.task_script.specs.declared.script.Line.{Line}
 use Rattle.task_script.specs.declared.version.Version.{Version}
-use Rattle.task_script.specs.declared.version.Version.TheVariants.{One}
 
 -- an object that it declares
 pub record Declared : Type 0 where

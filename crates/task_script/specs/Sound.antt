@@ -1,19 +1,14 @@
 -- What every script is.
 use Rattle.std.specs.Prelude.{◌≡◌, ℕ, ◌^◌, ◌<◌, ◌≤◌, ◌⊎◌, Bool, true, List, [], ◌∷◌, ◌++◌, length, slice_get, None, Some}
 use Rattle.std.specs.List.{AllByRecursion}
-use Rattle.word_bits.specs.declared.call.CallWords.{CallWords}
-use Rattle.word_bits.specs.declared.call.Mode.{Mode}
-use Rattle.word_bits.specs.declared.kind.CallKind.{CallKind}
 use Rattle.task_script.specs.declared.script.Line.{Line}
 use Rattle.task_script.specs.declared.version.Version.{Version}
-use Rattle.task_script.specs.declared.verb.Argument.{Argument}
-use Rattle.task_script.specs.declared.verb.Argument.TheVariants.{First, Second, Third, File, Target, Protection, AccessBit}
-use Rattle.task_script.specs.declared.verb.Values.{Values}
 use Rattle.task_script.specs.Tokens.{is_name}
 use Rattle.task_script.specs.Verbs.{no_values, arguments_of, call_words_of, is_on_kind, takes_mode}
 use Rattle.task_script.specs.Versions.{most_objects, most_tasks}
 use Rattle.task_script.specs.Scripts.{Declared, Listing}
 use Rattle.task_script.specs.Grammar.{line_of, place_of}
+use Rattle.task_script.specs.Types.{CallWords, Mode, CallKind, Argument, First, Second, Third, File, Target, Protection, AccessBit, Values}
 
 -- one of r 1, w 2, x 4
 abbrev pub IsAccess : ℕ → Type 0

@@ -1,18 +1,13 @@
 -- The text of calls and of scripts.
 use Rattle.std.specs.Prelude.{ℕ, ◌/◌, ◌%◌, ◌==◌, List, [], ◌∷◌, ◌++◌, slice_get, flat_map, if◌then◌else◌, Option, Some, None, codes, decimal}
 use Rattle.std.specs.Option.{option_map_or}
-use Rattle.word_bits.specs.declared.call.CallWords.{CallWords}
-use Rattle.word_bits.specs.declared.call.Mode.{Mode}
-use Rattle.word_bits.specs.declared.call.Mode.TheVariants.{Plain, Int, Try}
-use Rattle.word_bits.specs.declared.kind.CallKind.{CallKind}
+use Rattle.word_bits.specs.declared.call.Mode.TheVariants.{Int, Try}
 use Rattle.word_bits.specs.CallKinds.{kind_of_number}
 use Rattle.word_bits.specs.Calls.{mode_of, kind_in, first_in, second_in, third_in, prot_in, access_in}
 use Rattle.task_script.specs.declared.script.Line.{Line}
-use Rattle.task_script.specs.declared.verb.Argument.{Argument}
-use Rattle.task_script.specs.declared.verb.Argument.TheVariants.{First, Second, Third, File, Target, Protection, AccessBit}
-use Rattle.task_script.specs.declared.verb.Values.{Values}
 use Rattle.task_script.specs.Verbs.{verb_text, arguments_of}
 use Rattle.task_script.specs.Scripts.{Declared, Listing, call_words}
+use Rattle.task_script.specs.Types.{CallWords, Mode, Plain, CallKind, Argument, First, Second, Third, File, Target, Protection, AccessBit, Values}
 use Rattle.task_script.specs.Versions.{version_text}
 
 -- what stands in front of a call of this mode

@@ -3,8 +3,8 @@ use Rattle.std.specs.Prelude.{ℕ, ◌+◌, ◌-◌, ◌*◌, ◌^◌, ◌==◌,
 use Rattle.std.specs.Char.{is_ascii_digit}
 use Rattle.std.specs.List.{list_all}
 use Rattle.std.specs.Str.{bytes_eq}
-use Rattle.task_script.specs.declared.token.Keyword.{Keyword}
-use Rattle.task_script.specs.declared.token.Keyword.TheVariants.{Version, Space, Table, Task, Int, Try}
+use Rattle.task_script.specs.Types.{Keyword, Space, Table, Task}
+use Rattle.task_script.specs.declared.token.Keyword.TheVariants.{Version, Int, Try}
 
 abbrev pub is_lower : ℕ → Bool
 is_lower b = nat_le 97 b && nat_le b 122

@@ -1,20 +1,14 @@
 -- The calls that a script can name: their verbs and arguments, and the words that they are kept in.
 use Rattle.std.specs.Prelude.{ℕ, ◌==◌, ◌&&◌, nat_lt, not, Bool, true, false, List, [], ◌∷◌, length, if◌then◌else◌, Option, Some, None, ok_or, Result, Ok, Err, codes}
 use Rattle.std.specs.Str.{bytes_eq}
-use Rattle.word_bits.specs.declared.call.CallWords.{CallWords}
-use Rattle.word_bits.specs.declared.call.Mode.{Mode}
 use Rattle.word_bits.specs.declared.call.Mode.TheVariants.{Int, Try}
-use Rattle.word_bits.specs.declared.kind.CallKind.{CallKind}
-use Rattle.word_bits.specs.declared.kind.CallKind.TheVariants.{Map, MapAny, MapNew, Unmap, Protect, Populate, Fault, Open, Close, Dup, Dup2, Get, Remap, Signal}
 use Rattle.word_bits.specs.CallKinds.{kind_number}
 use Rattle.word_bits.specs.Calls.{words_of, with_third, mode_number}
 use Rattle.task_script.specs.declared.version.Version.{Version}
-use Rattle.task_script.specs.declared.verb.Argument.{Argument}
-use Rattle.task_script.specs.declared.verb.Argument.TheVariants.{First, Second, Third, File, Target, Protection, AccessBit}
-use Rattle.task_script.specs.declared.verb.Values.{Values}
-use Rattle.task_script.specs.declared.reason.Reason.{Reason}
-use Rattle.task_script.specs.declared.reason.Reason.TheVariants.{Words, Call, Mode as NoMode, Number, Limit, Prot, Access}
+use Rattle.task_script.specs.declared.reason.Reason.TheVariants.{Mode as NoMode}
 use Rattle.task_script.specs.Tokens.{number, access, prot}
+use Rattle.task_script.specs.Types.{CallWords, Mode, CallKind, Map, MapAny, MapNew, Unmap, Protect, Populate, Fault, Open, Close, Dup, Dup2, Get, Remap, Signal, Argument, First, Second}
+use Rattle.task_script.specs.Types.{Third, File, Target, Protection, AccessBit, Values, Reason, Words, Call, Number, Limit, Prot, Access}
 use Rattle.task_script.specs.Versions.{has_remap, most_tasks}
 
 -- the verb of a call

@@ -1,7 +1,7 @@
 -- What the scripts of each version have.
 use Rattle.std.specs.Prelude.{ℕ, List, [], Bool, true, false, codes}
 use Rattle.task_script.specs.declared.version.Version.{Version}
-use Rattle.task_script.specs.declared.version.Version.TheVariants.{One, Two}
+use Rattle.task_script.specs.Types.{One, Two}
 
 abbrev pub version_number : Version → ℕ
 version_number One = 1

@@ -1,14 +1,9 @@
 -- The stores of an append, one after the other.
 use Rattle.std.proofs.Common.{◌≡◌, ◌∙◌, ℕ, ◌+◌, ◌*◌, ◌<◌, ◌≤◌, inl, inr, Bool, true, false, List, [], ◌∷◌, ◌++◌, Some, length, get_or, set, sym, refl, ap, subst, arith, length-set, get_or-set_same, get_or-set_other}
-use Rattle.lock_core.specs.declared.view.View.{View}
-use Rattle.lock_core.specs.declared.view.SpinHand.{SpinHand}
 use Rattle.lock_core.specs.Records.{bit}
 use Rattle.lock_core.proofs.HandLaws.{not-both}
-use Rattle.wait_list.specs.declared.view.Waiter.{Waiter}
-use Rattle.wait_list.specs.declared.view.Change.{Change}
-use Rattle.wait_list.specs.declared.view.Change.TheVariants.{Stay, Enter}
-use Rattle.wait_list.specs.declared.view.ListHand.{ListHand}
 use Rattle.wait_list.specs.Lists.{AllowsChange, Appends, IsList, IsNear, IsPrepared, IsStill, Knows, Learnt, LearntWord, Lists, MayStore, Part, counted, ending, entering, first_code, going_on, list_part, listed}
+use Rattle.wait_list.specs.Types.{View, SpinHand, Waiter, Change, Stay, Enter, ListHand}
 use Rattle.wait_list.proofs.Walks.{appended-lists, apart-lists, head-is, last-among, last-small}
 use Rattle.wait_list.proofs.Courses.{Came, allowed-on, comes, comes-on, end-may, part-of, stay-may, stays-on}
 use Rattle.wait_list.specs.declared.words.TheConstants.{LIST_WORDS}

@@ -1,13 +1,8 @@
 -- Where steps on the list lead that a pass makes one after the other.
 use Rattle.std.proofs.Common.{◌≡◌, ◌∙◌, ℕ, ◌+◌, false, List, refl, sym, ap, subst, inl, inr, set}
-use Rattle.lock_core.specs.declared.view.View.{View}
-use Rattle.lock_core.specs.declared.view.SpinHand.{SpinHand}
 use Rattle.lock_core.proofs.HandLaws.{not-both}
-use Rattle.wait_list.specs.declared.view.Waiter.{Waiter}
-use Rattle.wait_list.specs.declared.view.Change.{Change}
-use Rattle.wait_list.specs.declared.view.Change.TheVariants.{Stay}
-use Rattle.wait_list.specs.declared.view.ListHand.{ListHand}
 use Rattle.wait_list.specs.Lists.{Knows, Learnt, Lists, MayStore, ending, going_on, list_part, listed}
+use Rattle.wait_list.specs.Types.{View, SpinHand, Waiter, Change, Stay, ListHand}
 
 -- a store after which the words are still those of the list, and one after which they are so again
 pub stay-may : (s : SpinHand) (d : ListHand) (i n : ℕ) → Knows (s, d) → d.changes ≡ false → Lists (set d.words i n) d.list → MayStore (s, d) i n Stay (going_on d i n)

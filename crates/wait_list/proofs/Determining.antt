@@ -5,8 +5,8 @@ use lib.ListN.{get_elem?}
 use Rattle.lock_core.specs.Records.{bit}
 use Rattle.lock_core.specs.Totals.{total}
 use Rattle.lock_core.proofs.HandLaws.{false-or-true}
-use Rattle.wait_list.specs.declared.view.Waiter.{Waiter}
 use Rattle.wait_list.specs.Lists.{ListKept, Part, changes_of}
+use Rattle.wait_list.specs.Types.{Waiter}
 use Rattle.wait_list.proofs.Walks.{walks-one}
 
 part-of : (ps : List Part) → 0 < total changes_of ps → (j : ℕ) × (p : Part) × (get_elem? ps j ≡ some p) × (0 < changes_of p)

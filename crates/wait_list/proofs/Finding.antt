@@ -4,15 +4,10 @@ use mathlib.Core.Logic.{dite}
 use native.Mathlib.Decide.{ℕ_discrete}
 use Rattle.word_bits.specs.declared.TheConstants.{MAX_TASKS}
 use Rattle.word_bits.specs.Histories.{Plan}
-use Rattle.lock_core.specs.declared.view.Moment.{Moment}
-use Rattle.lock_core.specs.declared.view.View.{View}
 use Rattle.lock_core.specs.Pasts.{FoundAt, FoundSince, GoesOn, IsOwnStep}
 use Rattle.lock_core.specs.Laws.SiteRun.{found-at-step}
-use Rattle.wait_list.specs.declared.view.Waiter.{Waiter}
-use Rattle.wait_list.specs.declared.view.Change.{Change}
-use Rattle.wait_list.specs.declared.view.Change.TheVariants.{Stay}
-use Rattle.wait_list.specs.declared.view.ListHand.{ListHand}
 use Rattle.wait_list.specs.Lists.{ArePlanned, FindsBehind, FindsFirst, FindsNext, Knows, KnowsCode, Learnt, counted, Part, list_part, listed}
+use Rattle.wait_list.specs.Types.{Moment, View, Waiter, Change, Stay, ListHand}
 use Rattle.wait_list.proofs.Walks.{behind-among, behind-first, behind-next, first-among, head-is, parity}
 
 -- what a step of a pass found, it has found since an earlier one

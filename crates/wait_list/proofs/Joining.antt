@@ -1,12 +1,11 @@
 -- Who is first in a list to which a holder of the wait lock has appended itself.
 use Rattle.std.proofs.Common.{◌≡◌, ◌≢◌, ◌∙◌, ◌==◌, List, [], ◌∷◌, ◌++◌, length, Some, sym, refl, ap, arith, eq-eqb}
-use Rattle.lock_core.specs.declared.view.View.{View}
 use Rattle.lock_core.specs.Records.{bit}
 use Rattle.lock_core.specs.SpinFrames.{holds_at}
 use Rattle.lock_core.specs.Spins.{holds_in}
 use Rattle.lock_core.specs.Views.{SpinHolds}
-use Rattle.wait_list.specs.declared.view.Waiter.{Waiter}
 use Rattle.wait_list.specs.Lists.{counted, first_of}
+use Rattle.wait_list.specs.Types.{View, Waiter}
 
 pub holds-one : {E : Type 0} (v : View E) → SpinHolds v.spin → holds_in v.spin ≡ 1
 holds-one v h = ap holds_at h

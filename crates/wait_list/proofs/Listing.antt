@@ -7,8 +7,6 @@ use lib.ListN.{get_elem?}
 use lib.Seq.{set-get_or}
 use Rattle.atomic_table.specs.Table.{Me, step, keeps}
 use Rattle.atomic_table.proofs.Lists.{at_map, set_again}
-use Rattle.lock_core.specs.declared.op.Op.TheVariants.{Load, Store}
-use Rattle.lock_core.specs.declared.view.View.{View}
 use Rattle.lock_core.specs.Layout.{part}
 use Rattle.lock_core.specs.Views.{spin_part, SpinHolds}
 use Rattle.lock_core.specs.Stores.{HasWord}
@@ -23,13 +21,10 @@ use Rattle.lock_core.proofs.HandLaws.{false-or-true}
 use Rattle.lock_core.proofs.RowLaws.{same-some}
 use Rattle.lock_core.specs.Regions.{part-at}
 use Rattle.lock_core.proofs.Steps.{loads, stores}
-use Rattle.wait_list.specs.declared.view.Waiter.{Waiter}
-use Rattle.wait_list.specs.declared.view.Change.{Change}
-use Rattle.wait_list.specs.declared.view.Change.TheVariants.{Stay}
-use Rattle.wait_list.specs.declared.view.ListHand.{ListHand}
 use Rattle.wait_list.specs.Lists.{Part, Knows, ListKept, Allowed, IsList, Lists, IsNear, Learnt, LeaverGoes, MayStore, changed, counted, list_part, listed, sighted, takes_of}
 use Rattle.wait_list.specs.Laws.List.{list-learns, list-known, list-stores, none-change}
 use Rattle.wait_list.specs.ListPlays.{Got, Laid, Sighted, FoundHead}
+use Rattle.wait_list.specs.Types.{Load, Store, View, Waiter, Change, Stay, ListHand}
 use Rattle.wait_list.proofs.Waiters.{sound-changed}
 use Rattle.wait_list.proofs.Walks.{first-among, head-is}
 use Rattle.wait_list.specs.declared.words.TheConstants.{LIST_WORDS}

@@ -2,14 +2,9 @@
 use Rattle.std.proofs.Common.{◌≡◌, ◌∙◌, ℕ, ◌+◌, ◌*◌, ◌/◌, ◌<◌, ◌≤◌, inl, inr, true, List, Some, length, get_or, set, sym, refl, ap, subst, arith, length-set, get_or-set_same, get_or-set_other}
 use mathlib.Core.Logic.{dite}
 use native.Mathlib.Decide.{ℕ_discrete}
-use Rattle.lock_core.specs.declared.view.View.{View}
-use Rattle.lock_core.specs.declared.view.SpinHand.{SpinHand}
 use Rattle.lock_core.proofs.HandLaws.{not-both}
-use Rattle.wait_list.specs.declared.view.Waiter.{Waiter}
-use Rattle.wait_list.specs.declared.view.Change.{Change}
-use Rattle.wait_list.specs.declared.view.Change.TheVariants.{Stay, Leave}
-use Rattle.wait_list.specs.declared.view.ListHand.{ListHand}
 use Rattle.wait_list.specs.Lists.{AllowsChange, AllowsStill, IsList, IsStill, Knows, Learnt, LearntWord, Lists, MayStore, Part, Removes, counted, ending, first_code, leaving, list_part, listed, only_steps, prev_with, without}
+use Rattle.wait_list.specs.Types.{View, SpinHand, Waiter, Change, Stay, Leave, ListHand}
 use Rattle.wait_list.proofs.Waiters.{first-without}
 use Rattle.wait_list.proofs.Walks.{before-among, before-small, behind-among, head-is, removed-lists}
 use Rattle.wait_list.proofs.Courses.{Came, allowed-on, comes, comes-on, end-may, loads-on, part-of, stays-on, steps-on}

@@ -3,10 +3,8 @@ use Rattle.std.proofs.Common.{zero, suc, subst, ◌≡◌, ◌≢◌, ◌∙◌,
 use mathlib.Core.Logic.{dite}
 use native.Mathlib.Decide.{ℕ_discrete}
 use Rattle.lock_core.specs.Records.{bit}
-use Rattle.wait_list.specs.declared.view.Waiter.{Waiter}
-use Rattle.wait_list.specs.declared.view.Change.{Change}
-use Rattle.wait_list.specs.declared.view.Change.TheVariants.{Stay, Enter, Leave}
 use Rattle.wait_list.specs.Lists.{first_code, without, counted, AreTasks, IsList, Allowed, changed}
+use Rattle.wait_list.specs.Types.{Waiter, Change, Stay, Enter, Leave}
 use Rattle.word_bits.specs.declared.TheConstants.{MAX_TASKS}
 
 -- a task of the plan

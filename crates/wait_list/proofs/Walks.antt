@@ -4,8 +4,8 @@ use mathlib.Core.Logic.{dite}
 use native.Mathlib.Decide.{ℕ_discrete}
 use Rattle.word_bits.specs.declared.TheConstants.{MAX_TASKS}
 use Rattle.lock_core.specs.Records.{bit}
-use Rattle.wait_list.specs.declared.view.Waiter.{Waiter}
 use Rattle.wait_list.specs.Lists.{AreAmong, AreTasks, IsBehind, IsList, IsPrepared, Lists, Walks, counted, first_code, first_of, last_code, next_of, prev_with, without}
+use Rattle.wait_list.specs.Types.{Waiter}
 use Rattle.wait_list.proofs.Waiters.{counted-behind, counted-else, counted-here, counted-own, without-else, without-here}
 
 pub bit-few : (b : Bool) → bit b < 2

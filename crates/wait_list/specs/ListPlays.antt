@@ -2,13 +2,9 @@
 use Rattle.std.specs.Prelude.{◌≡◌, ◌≤◌, ℕ, ◌-◌, List, Some, length, slice_index}
 use Rattle.word_bits.specs.Histories.{Plan}
 use Rattle.atomic_table.specs.Table.{Step}
-use Rattle.lock_core.specs.declared.view.View.{View}
 use Rattle.lock_core.specs.SitePlays.{Sat, Turns}
-use Rattle.wait_list.specs.declared.view.Waiter.{Waiter}
-use Rattle.wait_list.specs.declared.view.Change.{Change}
-use Rattle.wait_list.specs.declared.view.Change.TheVariants.{Stay}
-use Rattle.wait_list.specs.declared.view.ListHand.{ListHand}
 use Rattle.wait_list.specs.Lists.{ArePlanned, list_part, listed, sighted, IsLawful, Learnt, Allowed}
+use Rattle.wait_list.specs.Types.{View, Waiter, Change, Stay, ListHand}
 
 module _ {E : Type 0} where
   abbrev pub Got : ℕ → (E → ListHand) → (Change → View E → ListHand → E) → (Change → View E → List Waiter → Type 0) → Step (Unit {0}) → Sat E → ℕ → Sat E → Type 0

@@ -1,11 +1,9 @@
 -- A list of waiters, and its words: head and tail, and behind them a line for each task with `next` and `prev`.
 use Rattle.std.specs.Prelude.{Option, Some, None, IsTrue, ◌↔◌, ◌≡◌, ℕ, ◌+◌, ◌*◌, ◌%◌, ◌<◌, ◌≤◌, ◌==◌, ◌⊎◌, Bool, true, false, List, [], ◌∷◌, ◌++◌, length, slice_index, slice_set, if◌then◌else◌}
-use Rattle.lock_core.specs.declared.view.SpinHand.{SpinHand}
-use Rattle.lock_core.specs.declared.view.View.{View}
+use Rattle.wait_list.specs.Types.{SpinHand, View, Moment, Waiter, Change, Stay, Enter, Leave, ListHand}
 use Rattle.lock_core.specs.Records.{bit}
 use Rattle.lock_core.specs.Totals.{total}
 use Rattle.lock_core.specs.Spins.{holds_in}
-use Rattle.lock_core.specs.declared.view.Moment.{Moment}
 use Rattle.lock_core.specs.Pasts.{FoundAt}
 use Rattle.word_bits.specs.declared.TheConstants.{MAX_TASKS}
 use Rattle.word_bits.specs.Histories.{Plan}
@@ -13,10 +11,6 @@ use Rattle.wait_list.specs.declared.words.TheConstants.{LIST_WORDS}
 use mathlib.Core.Option.{some}
 use lib.ListN.{get_elem?}
 use Rattle.lock_core.specs.ViewParts.{Each}
-use Rattle.wait_list.specs.declared.view.Waiter.{Waiter}
-use Rattle.wait_list.specs.declared.view.Change.{Change}
-use Rattle.wait_list.specs.declared.view.Change.TheVariants.{Stay, Enter, Leave}
-use Rattle.wait_list.specs.declared.view.ListHand.{ListHand}
 
 abbrev pub first_code : List Waiter → ℕ
 first_code [] = 0

@@ -3,17 +3,13 @@ ghost use Rattle.std.specs.Prelude.{◌≡◌, ℕ, ◌+◌, ◌<◌, ◌≤◌,
 ghost use mathlib.Core.Option.{some};
 ghost use lib.ListN.{get_elem?};
 ghost use Rattle.word_bits.specs.Histories.{Plan as Calls};
-ghost use Rattle.lock_core.specs.declared.view.View.{View};
 ghost use Rattle.lock_core.specs.declared.layout.TheConstants.{LOCK_WORDS, SPIN_WORDS};
 ghost use Rattle.lock_core.specs.Layout.{part};
 ghost use Rattle.lock_core.specs.Moves.{Goes};
 ghost use Rattle.lock_core.specs.Views.{SpinHolds};
-ghost use Rattle.wait_list.specs.declared.view.Waiter.{Waiter};
-ghost use Rattle.wait_list.specs.declared.view.Change.{Change};
-ghost use Rattle.wait_list.specs.declared.view.Change.TheVariants.{Stay};
-ghost use Rattle.wait_list.specs.declared.view.ListHand.{ListHand};
 ghost use Rattle.wait_list.specs.declared.words.TheConstants.{LIST_WORDS};
 ghost use Rattle.wait_list.specs.Lists.{ListKept, ListMoves, LeaverGoes, Allowed, changed, counted, list_part, listed, sighted};
+ghost use Rattle.wait_list.specs.Types.{View, Waiter, Change, Stay, ListHand};
 
 use lock_core::SpinHost;
 

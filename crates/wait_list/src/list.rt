@@ -2,8 +2,8 @@
 ghost use Rattle.std.specs.Prelude.{◌≡◌, ◌<◌, ◌≤◌, Option, IsSome, IfSome, Some, ◌+◌, length};
 ghost use Rattle.lock_core.specs.SiteHandles.{Finds, IsLatest, plan_of, view_of, past_of, task_in, SitsAt, StepsAt, SaysSame};
 ghost use Rattle.lock_core.specs.Views.{SpinHolds};
-ghost use Rattle.wait_list.specs.declared.view.Change.TheVariants.{Enter, Leave};
 ghost use Rattle.wait_list.specs.Lists.{AllowsChange, AllowsStill, Appends, FindsBehind, FindsFirst, FindsNext, IsStill, Knows, KnowsCode, KnowsWaiter, Removes, TellsFirst, hand_at, list_part, next_place, only_steps, prev_with, sighted, waiter_code};
+ghost use Rattle.wait_list.specs.Types.{Enter, Leave};
 ghost use Rattle.word_bits.specs.OwnerWord.{task_code};
 ghost use Rattle.lock_core.specs.Pasts.{FoundAt};
 

@@ -10,11 +10,9 @@ ghost use Rattle.std.specs.Prelude.{◌≡◌, ◌<◌, ◌≤◌, ◌+◌, ◌*
 ghost use Rattle.lock_core.specs.SiteHandles.{plan_of, view_of, past_of, SitsAt, StepsAt, SaysSame};
 ghost use Rattle.lock_core.specs.Pasts.{FoundAt};
 ghost use Rattle.lock_core.specs.Views.{SpinHolds};
-ghost use Rattle.wait_list.specs.declared.view.ListHand.{ListHand};
-ghost use Rattle.wait_list.specs.declared.view.Change.{Change};
-ghost use Rattle.wait_list.specs.declared.view.Change.TheVariants.{Stay, Enter, Leave};
 ghost use Rattle.wait_list.specs.Lists.{AllowsKnown, HasWords, IsPrepared, IsStill, Knows, LearntWord, MayStore, list_part, listed, sighted, no_list, next_place, prev_place, entering, leaving, going_on, ending};
 ghost use Rattle.wait_list.specs.ListPlays.{Got, Laid, Sighted, FoundHead};
+ghost use Rattle.wait_list.specs.Types.{ListHand, Change, Stay, Enter, Leave};
 
 use crate::host::ListHost;
 use crate::view::{Change, Waiter};

@@ -4,16 +4,12 @@ use mathlib.Core.Option.{some, none}
 use lib.ListN.{get_elem?}
 use Rattle.atomic_table.specs.Table.{Me, step, keeps}
 use Rattle.word_bits.specs.declared.TheConstants.{MAX_TASKS}
-use Rattle.lock_core.specs.declared.op.Op.TheVariants.{Store, Swap}
-use Rattle.lock_core.specs.declared.view.Held.TheVariants.{No}
-use Rattle.lock_core.specs.declared.view.View.{View}
+use Rattle.wake_duty.specs.Types.{Store, Swap, No, View, Waiter, WaitState}
 use Rattle.lock_core.specs.SitePlays.{Turns}
 use Rattle.lock_core.specs.Stores.{HasWord, row_at}
 use Rattle.lock_core.specs.Views.{SpinRests}
 use Rattle.lock_core.specs.Moves.{Goes, Lets}
 use Rattle.lock_core.proofs.Steps.{stores}
-use Rattle.wait_list.specs.declared.view.Waiter.{Waiter}
-use Rattle.wake_duty.specs.declared.view.WaitState.{WaitState}
 use Rattle.wake_duty.specs.WakeSteps.{HasTried, Woke, Drowsed, knowing}
 
 -- the wake word of a task of the plan is one that the table has

@@ -1,22 +1,14 @@
 -- The wake words and the passes of a table: who has the duty to wake the first waiter.
 use Rattle.std.specs.Prelude.{◌≡◌, ℕ, zero, suc, ◌+◌, ◌*◌, ◌%◌, ◌<◌, ◌≤◌, ◌==◌, Bool, true, false, List, length, slice_index, Option, Some, None}
 use Rattle.word_bits.specs.declared.TheConstants.{MAX_TASKS}
-use Rattle.lock_core.specs.declared.view.View.{View}
-use Rattle.lock_core.specs.declared.view.Held.{Held}
-use Rattle.lock_core.specs.declared.view.Held.TheVariants.{No}
+use Rattle.wake_duty.specs.Types.{View, Held, No, Waiter, Duty, NoDuty, Owing, Chosen, WaitState, Absent, Awake, Tried, WakeHand}
 use Rattle.lock_core.specs.Records.{bit}
 use Rattle.lock_core.specs.Views.{held_weight, is_number}
 use Rattle.lock_core.specs.Spins.{holds_in}
 use Rattle.lock_core.specs.Tallies.{raised}
 use Rattle.lock_core.specs.Totals.{total}
 use Rattle.lock_core.specs.ViewParts.{Each}
-use Rattle.wait_list.specs.declared.view.Waiter.{Waiter}
 use Rattle.wait_list.specs.Lists.{first_code}
-use Rattle.wake_duty.specs.declared.view.Duty.{Duty}
-use Rattle.wake_duty.specs.declared.view.Duty.TheVariants.{NoDuty, Owing, Chosen}
-use Rattle.wake_duty.specs.declared.view.WaitState.{WaitState}
-use Rattle.wake_duty.specs.declared.view.WaitState.TheVariants.{Absent, Awake, Tried}
-use Rattle.wake_duty.specs.declared.view.WakeHand.{WakeHand}
 
 -- a line of 8 words for each task
 abbrev pub WAKE_WORDS : ℕ

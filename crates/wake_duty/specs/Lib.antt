@@ -1,3 +1,4 @@
+pub mod Types
 pub mod DutyWakes
 pub mod WakeSteps
 pub mod WakeMoves

@@ -1,9 +1,9 @@
 -- What a step of a pass may make of wake words, of its choice and of its sleep, whatever the lock.
 use Rattle.std.specs.Prelude.{◌≡◌, ◌⊎◌, ℕ, true, List, Option, Some}
 use Rattle.lock_core.specs.Tallies.{raised}
-use Rattle.wait_list.specs.declared.view.Waiter.{Waiter}
 use Rattle.wait_list.specs.Lists.{first_code}
 use Rattle.wake_duty.specs.DutyWakes.{wake_word}
+use Rattle.wake_duty.specs.Types.{Waiter}
 
 -- what a step of a pass of this task makes of a wake word: it stays; or it is set, and the pass had chosen its task; or it is 0, and it is the own task's, which waits without the wait lock and isn't
 -- to try

@@ -1,12 +1,9 @@
 -- What the steps on wake words tell, and when they may be made.
 use Rattle.std.specs.Prelude.{IsTrue, ◌↔◌, ◌≡◌, ℕ, ◌+◌, ◌*◌, ◌≤◌, Bool, List, Option, Some}
 use Rattle.atomic_table.specs.Table.{Step}
-use Rattle.lock_core.specs.declared.view.Moment.{Moment}
-use Rattle.lock_core.specs.declared.view.View.{View}
+use Rattle.wake_duty.specs.Types.{Moment, View, WaitState, Tried}
 use Rattle.lock_core.specs.Pasts.{FoundAt}
 use Rattle.lock_core.specs.SitePlays.{Sat, Turns}
-use Rattle.wake_duty.specs.declared.view.WaitState.{WaitState}
-use Rattle.wake_duty.specs.declared.view.WaitState.TheVariants.{Tried}
 
 -- its task is in the list, and a try of it failed under the wait lock since it last woke
 abbrev pub HasTried : {E : Type 0} → (E → WaitState) → View E → Type 0

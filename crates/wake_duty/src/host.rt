@@ -4,15 +4,13 @@ ghost use mathlib.Core.Option.{some};
 ghost use lib.ListN.{get_elem?};
 ghost use Rattle.word_bits.specs.declared.TheConstants.{MAX_TASKS};
 ghost use Rattle.word_bits.specs.Histories.{Plan as Calls};
-ghost use Rattle.lock_core.specs.declared.view.Held.TheVariants.{No};
-ghost use Rattle.lock_core.specs.declared.view.View.{View};
 ghost use Rattle.lock_core.specs.declared.layout.TheConstants.{LOCK_WORDS};
 ghost use Rattle.lock_core.specs.Moves.{Goes};
 ghost use Rattle.lock_core.specs.Stores.{row_at};
 ghost use Rattle.lock_core.specs.Views.{SpinRests};
-ghost use Rattle.wait_list.specs.declared.view.Waiter.{Waiter};
 ghost use Rattle.wake_duty.specs.declared.view.WaitState.{WaitState as AWaitState};
 ghost use Rattle.wake_duty.specs.DutyWakes.{WAKE_WORDS};
+ghost use Rattle.wake_duty.specs.Types.{No, View, Waiter};
 ghost use Rattle.wake_duty.specs.WakeSteps.{HasTried, knowing};
 
 use crate::view::WaitState;

@@ -1,6 +1,6 @@
 //! The two steps on wake words: the waiter that was chosen is woken, and a waiter drowses.
 ghost use Rattle.std.specs.Prelude.{◌≡◌, ◌<◌, ◌+◌, ◌*◌, IsSome, length};
-ghost use Rattle.lock_core.specs.declared.view.Held.TheVariants.{No};
+ghost use Rattle.wake_duty.specs.Types.{No};
 ghost use Rattle.lock_core.specs.SiteHandles.{plan_of, view_of, past_of, task_in, held_in, SitsAt, StepsAt, SaysSame};
 ghost use Rattle.lock_core.specs.Views.{SpinRests};
 ghost use Rattle.wake_duty.specs.WakeSteps.{HasTried, Woke, Drowsed, FallsAsleep, knowing};

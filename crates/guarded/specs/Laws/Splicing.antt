@@ -1,9 +1,9 @@
 -- Laws of what changes the guarded words alone.
 use Rattle.std.specs.Prelude.{ℕ, List, refl}
 use Rattle.std.proofs.Common.{sym, ap, ◌∙◌, arith}
-use Rattle.lock_core.specs.declared.view.Hand.{Hand}
 use Rattle.lock_core.specs.Shown.{Shown}
 use Rattle.guarded.specs.Splicing.{ChangesWords}
+use Rattle.guarded.specs.Types.{Hand}
 
 -- it is so where nothing was done
 pub changes-none : (v : Shown) → ChangesWords v v

@@ -4,21 +4,12 @@ use Rattle.std.proofs.Common.{Some, None, IsSome, refl, sym, ap, subst, arith}
 use Rattle.std.proofs.lemmas.Bool.{false≢true}
 use Rattle.std.proofs.lemmas.Bool.Decides.{nat_tests}
 use Rattle.std.proofs.lemmas.List.{length-replicate}
-use Rattle.word_bits.specs.declared.call.CallWords.{CallWords}
-use Rattle.word_bits.specs.declared.entry.Entry.{Entry}
-use Rattle.word_bits.specs.declared.rec.Rec.{Rec}
-use Rattle.word_bits.specs.declared.reply.Reply.{Reply}
-use Rattle.word_bits.specs.declared.reply.Errno.{Errno}
-use Rattle.word_bits.specs.declared.reply.Reply.TheVariants.{Good, Num, Refused, MapErr, AccErr, Busy, Intr, Sent}
 use Rattle.word_bits.specs.Calls.{mode_number, signal_of}
 use Rattle.word_bits.specs.RecWord.{kind_of}
 use Rattle.word_bits.specs.LockWords.{Unavailable}
 use Rattle.word_bits.specs.Histories.{Plan, state_after}
 use Rattle.word_bits.specs.Legal.{IsRecord, IsUnheldReply}
 use Rattle.word_bits.proofs.Signals.{signal_kind}
-use Rattle.lock_core.specs.declared.view.Hand.{Hand}
-use Rattle.lock_core.specs.declared.view.Held.{Held}
-use Rattle.lock_core.specs.declared.view.Held.TheVariants.{No}
 use Rattle.lock_core.specs.Plans.{appended, calls_in}
 use Rattle.lock_core.specs.Records.{row, seen_by, AreNext, IsPlan}
 use Rattle.lock_core.specs.Kinds.{Kind}
@@ -31,6 +22,7 @@ use Rattle.lock_core.proofs.Planning.{calls_in-empty}
 use Rattle.lock_core.proofs.Recording.{next-is}
 use Rattle.lock_core.proofs.RowLaws.{none-some, same-some, some-inside}
 use Rattle.kept_words.specs.Keeping.{kept, opening, opening_entry, opening_plan, opens, IsOurs, IsTask, Opens}
+use Rattle.kept_words.specs.Types.{CallWords, Entry, Rec, Reply, Errno, Good, Num, Refused, MapErr, AccErr, Busy, Intr, Sent, Hand, Held, No}
 
 pub kept-zeros : (size : ℕ) (keeps : List ℕ → Type 0) → (length (replicate {A = ℕ} size 0) ≡ size) × (false ≡ true → keeps (replicate size 0))
 kept-zeros size keeps = (length-replicate {A = ℕ} size 0, λ e. absurd (false≢true e))

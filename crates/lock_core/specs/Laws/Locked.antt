@@ -5,10 +5,6 @@ use lib.ListN.{get_elem?}
 use Rattle.std.proofs.lemmas.List.{length-map}
 use Rattle.atomic_table.proofs.Lists.{at_map}
 use Rattle.word_bits.specs.Histories.{Plan}
-use Rattle.lock_core.specs.declared.view.Moment.{Moment}
-use Rattle.lock_core.specs.declared.view.View.{View}
-use Rattle.lock_core.specs.declared.view.Hand.{Hand}
-use Rattle.lock_core.specs.declared.view.Held.TheVariants.{No, Shared, Alone}
 use Rattle.lock_core.specs.ViewParts.{at_unmap}
 use Rattle.lock_core.specs.Moves.{IsTakenIn}
 use Rattle.lock_core.specs.Views.{hand_of, spin_of, spent, split_off, held_weight}
@@ -16,6 +12,7 @@ use Rattle.lock_core.specs.Pasts.{Instant, fronts_of, marks_of, moment, steps_of
 use Rattle.lock_core.specs.SiteStated.{IsSiteMove, IsSiteMoveWhere}
 use Rattle.lock_core.specs.Kinds.{Kind, mutex, semaphore, shares}
 use Rattle.lock_core.specs.Locked.{IsBorn, IsGone, IsSiteStep, IsSiteStepWhere, SamePass}
+use Rattle.lock_core.specs.Types.{Moment, View, Hand, No, Shared, Alone}
 
 module _ {E : Type 0} (marks : E → List ℕ) (k : Plan) (word_at : ℕ) where
   -- a view that stays leaves all that the moments have of its pass

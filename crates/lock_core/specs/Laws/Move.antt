@@ -5,17 +5,13 @@ use mathlib.Core.Logic.{dite}
 use native.Mathlib.Decide.{ℕ_discrete}
 use lib.ListN.{get_elem?}
 use Rattle.atomic_table.proofs.Lists.{set_else, at_set, at_snoc}
-use Rattle.lock_core.specs.declared.view.View.{View}
-use Rattle.lock_core.specs.declared.view.SpinHand.{SpinHand}
-use Rattle.lock_core.specs.declared.view.Held.TheVariants.{Alone}
 use Rattle.lock_core.specs.Layout.{SiteWords}
 use Rattle.lock_core.specs.Views.{HoldsNothing, SpinStays, forgot, handed, seated, ticked, merged, spent, split_off}
 use Rattle.lock_core.specs.Sites.{Grows, HandGoes, HoldGoes, KeepsSaw, OwesGrowth, SameObject, SawGoes, SiteStep}
 use Rattle.lock_core.specs.Spins.{SpinGoes, spun}
 use Rattle.lock_core.specs.Moves.{MovedWhere, SiteMoveWhere, TriesWhere}
+use Rattle.lock_core.specs.Types.{View, SpinHand, Alone, Hand, Saw}
 use Rattle.lock_core.specs.ViewParts.{set-there}
-use Rattle.lock_core.specs.declared.view.Hand.{Hand}
-use Rattle.lock_core.specs.declared.view.Saw.{Saw}
 
 -- what the number of takings tells
 pub spin-grows : (step : ℕ) (s g : SpinHand) → (l : ℕ) × SpinGoes step l s g → s.entries ≤ g.entries

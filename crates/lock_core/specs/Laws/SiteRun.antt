@@ -1,8 +1,7 @@
 -- What each step of a run does, the run tells.
 use Rattle.std.proofs.Common.{◌≡◌, ℕ, Option, List, [], ◌∷◌, length, map, sym, ap, ◌∙◌, subst, arith}
-use Rattle.lock_core.specs.declared.view.Moment.{Moment}
-use Rattle.lock_core.specs.declared.view.View.{View}
 use Rattle.lock_core.specs.Pasts.{Instant, instant, moment, Moves, EachMoment, Paced, Ran, GoesOn, FoundAt, IsOwnStep, FoundAtStep, IsStepBy}
+use Rattle.lock_core.specs.Types.{Moment, View}
 
 pub paced-so : {X : Type 0} (P Q : X → X → Type 0) → ((x y : X) → P x y → Q x y) → (h : List X) → Paced P h → Paced Q h
 paced-so P Q each [] r = tt

@@ -5,11 +5,6 @@ use mathlib.Core.Logic.{dite}
 use native.Mathlib.Decide.{ℕ_discrete}
 use lib.ListN.{get_elem?}
 use Rattle.atomic_table.proofs.Lists.{at_map, at_longer, set_else}
-use Rattle.lock_core.specs.declared.view.Frame.{Frame}
-use Rattle.lock_core.specs.declared.view.Point.{Point}
-use Rattle.lock_core.specs.declared.view.Point.TheVariants.{Out}
-use Rattle.lock_core.specs.declared.view.Saw.{Saw}
-use Rattle.lock_core.specs.declared.view.SpinHand.{SpinHand}
 use Rattle.lock_core.specs.declared.layout.TheConstants.{SPIN_WORDS}
 use Rattle.lock_core.specs.Views.{SpinPart, SpinRests, SpinStays, no_frame, no_spin, no_part}
 use Rattle.lock_core.specs.LockHands.{frame_at, point_at, RestsEverywhere}
@@ -18,6 +13,7 @@ use Rattle.lock_core.specs.ViewParts.{each-set, each-snoc, set_part, keep_part, 
 use Rattle.lock_core.specs.SpinFrames.{Counts, counts, uses, stands_as, uses_as, holds_at, takes_at, ready_at, pends_at, undoes_at, holds_of, takes_of, ready_of, pends_of, undoes_of}
 use Rattle.lock_core.specs.SpinQueues.{Balanced, Queued, FrameOk, LockKept}
 use Rattle.lock_core.specs.Spins.{SpinFacts, SpinsKept, SpinsMove, SpinKept, SpinMoves, LockIn, StaysAt, IsFew, OwnNodes, frame_of, frame_on, word_in, next_in, locked_in, holds_in}
+use Rattle.lock_core.specs.Types.{Frame, Point, Out, Saw, SpinHand}
 
 -- a step of one frame, in what the frames count for
 pub record Recount (c c' : Counts) (p r : Point) : Type 0 where

@@ -1,11 +1,11 @@
 //! The steps on the site's own words, which keep the site's own facts and so the rule.
 ghost use Rattle.std.specs.Prelude.{◌≡◌, ◌<◌, ◌+◌, ◌*◌, true, false};
-ghost use Rattle.lock_core.specs.declared.view.Hand.{Hand};
 ghost use Rattle.lock_core.specs.Layout.{site_width};
 ghost use Rattle.lock_core.specs.Views.{ticked, handed, with_number};
 ghost use Rattle.lock_core.specs.Moves.{KeepsHold};
 ghost use Rattle.lock_core.specs.Pasts.{FoundAt};
 ghost use Rattle.lock_core.specs.SiteHandles.{plan_of, view_of, hand_in, past_of, IsOneOf, KeepsSeat, SaysSame, MayFind, MayPut, MayAdd, MayTake};
+ghost use Rattle.lock_core.specs.Types.{Hand};
 
 use super::Site;
 use super::plays::{Becomes, Begin, Find, Put, Puts, Tells};

@@ -1,10 +1,7 @@
 //! The words of the object, the log and the records: what a holder reads and writes, and how a call
 //! is recorded.
 ghost use Rattle.std.specs.Prelude.{◌≡◌, ◌≢◌, ◌+◌, ◌<◌, ◌≤◌, true, length, slice_index, Some, None, IsSome};
-ghost use Rattle.word_bits.specs.declared.reply.Reply.TheVariants.{Busy, Intr, Sent};
 ghost use Rattle.word_bits.specs.EntryWord.{IsEntry};
-ghost use Rattle.lock_core.specs.declared.view.Held.TheVariants.{No, Alone};
-ghost use Rattle.lock_core.specs.declared.view.Stage.TheVariants.{Rest, Entered};
 ghost use Rattle.lock_core.specs.declared.layout.TheConstants.{LOCK_WORDS};
 ghost use Rattle.lock_core.specs.Layout.{entry_place, length_place};
 ghost use Rattle.lock_core.specs.Pasts.{FoundAt};
@@ -15,6 +12,7 @@ ghost use Rattle.lock_core.specs.Locking.{IsStored};
 ghost use Rattle.lock_core.specs.SitePlays.{Heeded};
 ghost use Rattle.lock_core.specs.SitePasses.{IsLength, IsChange, IsEntryWord, Quiets};
 ghost use Rattle.lock_core.specs.SiteHandles.{plan_of, view_of, hand_in, past_of, task_in, held_in, done_in, front_in, SitsAt, StepsAt, IsOneOf, KeepsSeat, KeepsNest, SaysSame, IsNextChange, IsNextReading, IsNextSeenReading, MayNoteNext, MayStoreRecord};
+ghost use Rattle.lock_core.specs.Types.{Busy, Intr, Sent, No, Alone, Rest, Entered};
 
 use super::Site;
 use super::plays::{Chronicle, Guarded, Length, LogEntry, Puts};

@@ -5,8 +5,6 @@ use mathlib.Core.Option.{some, some-injective, some-ne-none}
 use mathlib.Core.Logic.{dite}
 use native.Mathlib.Decide.{ℕ_discrete}
 use lib.ListN.{get_elem?}
-use Rattle.lock_core.specs.declared.view.Hand.{Hand}
-use Rattle.lock_core.specs.declared.view.SpinHand.{SpinHand}
 use Rattle.lock_core.specs.Views.{SpinStays, forgot, handed, seated, is_number}
 use Rattle.lock_core.specs.SpinFrames.{when}
 use Rattle.lock_core.specs.Spins.{spun, holds_in}
@@ -14,23 +12,16 @@ use Rattle.lock_core.specs.Totals.{total, total-set, total-same, total-snoc, tot
 use Rattle.lock_core.specs.ViewParts.{each-set, each-snoc}
 use Rattle.lock_core.proofs.HandLaws.{not-both, is_number-here, is_number-else}
 use Rattle.lock_core.proofs.RowLaws.{none-some, same-some}
-use Rattle.mutex_word.specs.declared.host.Turn.TheVariants.{Fail, Take, Ask, Free, Hand as HandOn, Flag, Clear}
+use Rattle.mutex_word.specs.declared.host.Turn.TheVariants.{Hand as HandOn}
 use Rattle.mutex_word.specs.Holders.{turns}
-use Rattle.wait_list.specs.declared.view.Waiter.{Waiter}
-use Rattle.wait_list.specs.declared.view.Change.TheVariants.{Enter, Leave}
-use Rattle.wait_list.specs.declared.view.ListHand.{ListHand}
 use Rattle.wait_list.specs.Laws.List.{holds-or-not}
 use Rattle.wait_list.specs.Lists.{first_code, counted, without, listed}
 use Rattle.wait_list.proofs.Waiters.{counted-append, counted-without-own, counted-without-other, counted-here, counted-else, length-without, first-without}
-use Rattle.wake_duty.specs.declared.view.WakeHand.{WakeHand}
-use Rattle.wake_duty.specs.declared.view.Duty.TheVariants.{NoDuty, Owing}
 use Rattle.wake_duty.specs.DutyWakes.{waits, duty_of}
 use Rattle.wake_duty.specs.Laws.Wake.{waits-failing}
 use Rattle.lock_core.specs.Records.{bit}
-use Rattle.mutex_slow.specs.declared.view.MutexHand.{MutexHand}
-use Rattle.mutex_slow.specs.declared.view.Point.{Point}
-use Rattle.mutex_slow.specs.declared.view.Point.TheVariants.{Rest, Joins, Empties}
 use Rattle.mutex_slow.specs.Mutexes.{V, idle, point_weight, point_of, queued_of, HasLock, IsOut, Flagged, SeatOk, Coupled, turned, with_list}
+use Rattle.mutex_slow.specs.Types.{Hand, SpinHand, Fail, Take, Ask, Free, Flag, Clear, Waiter, Enter, Leave, ListHand, WakeHand, NoDuty, Owing, MutexHand, Point, Rest, Joins, Empties}
 
 -- no point is another
 pub rest-joins : {P : Type 0} → Rest ≡ Joins → P

@@ -6,9 +6,6 @@ use lib.ListN.{get_elem?}
 use lib.Seq.{map-set}
 use Rattle.atomic_table.proofs.Lists.{at_map, set_else}
 use Rattle.word_bits.specs.declared.TheConstants.{MAX_TASKS}
-use Rattle.lock_core.specs.declared.view.Hand.{Hand}
-use Rattle.lock_core.specs.declared.view.SpinHand.{SpinHand}
-use Rattle.lock_core.specs.declared.view.Held.TheVariants.{Alone}
 use Rattle.lock_core.specs.Records.{bit}
 use Rattle.lock_core.specs.Views.{SpinRests, hand_of, held_of, is_number}
 use Rattle.lock_core.specs.SpinFrames.{holds_at}
@@ -17,24 +14,18 @@ use Rattle.lock_core.specs.Totals.{total, total-at}
 use Rattle.lock_core.specs.ViewParts.{at_unmap, keep_part, set_part, set-there}
 use Rattle.lock_core.proofs.HandLaws.{false-or-true, is_number-here}
 use Rattle.lock_core.proofs.RowLaws.{none-some, same-some}
-use Rattle.mutex_word.specs.declared.host.Turn.TheVariants.{Fail, Take, Free, Hand as HandOn}
+use Rattle.mutex_word.specs.declared.host.Turn.TheVariants.{Hand as HandOn}
 use Rattle.mutex_word.specs.Holders.{OwnKept, turns}
 use Rattle.mutex_word.specs.Laws.Own.{Named, no-holders, no-codes}
-use Rattle.wait_list.specs.declared.view.Waiter.{Waiter}
-use Rattle.wait_list.specs.declared.view.Change.TheVariants.{Enter, Leave}
-use Rattle.wait_list.specs.declared.view.ListHand.{ListHand}
 use Rattle.wait_list.specs.Laws.List.{holds-or-not}
 use Rattle.wait_list.specs.Lists.{AreTasks, first_code, without, listed, sighted}
-use Rattle.wake_duty.specs.declared.view.Duty.{Duty}
-use Rattle.wake_duty.specs.declared.view.Duty.TheVariants.{NoDuty, Owing, Chosen}
-use Rattle.wake_duty.specs.declared.view.WaitState.TheVariants.{Awake, Tried}
-use Rattle.wake_duty.specs.declared.view.WakeHand.{WakeHand}
 use Rattle.wake_duty.specs.DutyWakes.{WakePart, WakeKept, PartOk, IsQuiet, wake_part, with_hand, owed, chose_any, waits, guards, keeps_awake, awake, duty_of, choosing, after_failed_try, failing}
 use Rattle.wake_duty.specs.DutyWakes.{awakened, looking}
 use Rattle.wake_duty.specs.Laws.Wake.{wake-goes, wake-guarded, wake-quiet, wake-fails, wake-hands, wake-enters, wake-leaves, wake-looks, wake-chooses, wake-spins, no-chosen, owing-chosen, tried-waits}
 use Rattle.wake_duty.specs.Laws.Wake.{awake-tried}
 use Rattle.mutex_slow.specs.Mutexes.{V, HasLock, Coupled, IsUnpicked, point_of, wake_of, turned, with_list, saw_first}
 use Rattle.mutex_slow.specs.Laws.Coupled.{Apart, first-none, point-cases, rest-weighs}
+use Rattle.mutex_slow.specs.Types.{Hand, SpinHand, Alone, Fail, Take, Free, Waiter, Enter, Leave, ListHand, Duty, NoDuty, Owing, Chosen, Awake, Tried, WakeHand}
 
 abbrev pub wparted : V → WakePart
 wparted v = wake_part wake_of v

@@ -11,9 +11,6 @@ use Rattle.word_bits.specs.declared.TheConstants.{MAX_TASKS}
 use Rattle.word_bits.specs.LockWords.{owned}
 use Rattle.word_bits.specs.Objects.{Obj}
 use Rattle.word_bits.specs.Histories.{Plan}
-use Rattle.lock_core.specs.declared.view.Hand.{Hand}
-use Rattle.lock_core.specs.declared.view.SpinHand.{SpinHand}
-use Rattle.lock_core.specs.declared.view.Held.TheVariants.{No, Alone}
 use Rattle.lock_core.specs.declared.layout.TheConstants.{LOCK_WORDS, SPIN_WORDS}
 use Rattle.lock_core.specs.Records.{bit}
 use Rattle.lock_core.specs.Stores.{HasWord}
@@ -30,21 +27,13 @@ use Rattle.lock_core.specs.Totals.{total, total-set, total-at, total-two}
 use Rattle.lock_core.specs.ViewParts.{at_unmap, keep_part, set_part, set-there, snoc_part}
 use Rattle.lock_core.specs.Regions.{part-in, part-above, part-below, part-at, wide-part}
 use Rattle.lock_core.proofs.HandLaws.{held-none, not-both, false-or-true, is_number-here, number-or-not, is_number-else}
-use Rattle.mutex_word.specs.declared.host.Turn.{Turn}
-use Rattle.mutex_word.specs.declared.host.Turn.TheVariants.{Fail, Take, Ask, Free, Hand as HandOn, Flag, Clear}
+use Rattle.mutex_word.specs.declared.host.Turn.TheVariants.{Hand as HandOn}
 use Rattle.mutex_word.specs.Holders.{KeepsLeft, OwnKept, IsTurn, turns}
 use Rattle.mutex_word.specs.Laws.Own.{Named, no-holders, own-frees, own-stays, own-strangers, own-opens, held-word}
-use Rattle.wait_list.specs.declared.view.Waiter.{Waiter}
-use Rattle.wait_list.specs.declared.view.Change.{Change}
-use Rattle.wait_list.specs.declared.view.Change.TheVariants.{Stay, Enter, Leave}
-use Rattle.wait_list.specs.declared.view.ListHand.{ListHand}
 use Rattle.wait_list.specs.declared.words.TheConstants.{LIST_WORDS}
 use Rattle.wait_list.specs.Lists.{Part, ListKept, MadeBy, Knows, Lists, LeaverGoes, Allowed, changed, list_part, listed, sighted, first_code, changes_of, takes_of, counted}
 use Rattle.wait_list.proofs.Walks.{head-is}
 use Rattle.wait_list.specs.Laws.List.{none-change, list-spins, list-keeps, list-leaves, list-strangers, list-opens, list-known}
-use Rattle.wake_duty.specs.declared.view.WaitState.TheVariants.{Absent, Awake, Tried}
-use Rattle.wake_duty.specs.declared.view.Duty.TheVariants.{NoDuty, Owing}
-use Rattle.wake_duty.specs.declared.view.WakeHand.{WakeHand}
 use Rattle.wake_duty.specs.DutyWakes.{WAKE_WORDS, WakeKept, IsQuiet, Sets, Drowses, wake_word, with_hand, waked, duty_of, waits, setting, drowsing}
 use Rattle.wake_duty.specs.Laws.Wake.{wake-opens, wake-snoc, wake-quiet, wake-sets, wake-drowses, waits-looking, waits-drowsing, wait_state-looking}
 use Rattle.wake_duty.specs.WakeSteps.{HasTried, knowing}
@@ -55,6 +44,7 @@ use Rattle.mutex_slow.specs.Mutexes.{LeavesToFirst, PicksFirst, Asks, HasHandoff
 use Rattle.mutex_slow.specs.Mutexes.{owner_in, list_words, may_free, may_miss, rests, may_own, turned, with_list, may_change, is_code, saw_first, queued_of}
 use Rattle.mutex_slow.specs.Laws.Coupled.{Apart, coupled-stays, coupled-hands, coupled-seats, coupled-spins, coupled-fails, coupled-takes-free, coupled-takes-picked, coupled-asks, coupled-frees}
 use Rattle.mutex_slow.specs.Laws.Coupled.{coupled-hands-over, coupled-flags, coupled-clears, coupled-enters, coupled-leaves, coupled-opens, coupled-snoc, idle-ok, flagged, not-in, is-in, locked-free}
+use Rattle.mutex_slow.specs.Types.{Hand, SpinHand, No, Alone, Turn, Fail, Take, Ask, Free, Flag, Clear, Waiter, Change, Stay, Enter, Leave, ListHand, Absent, Awake, Tried, NoDuty, Owing, WakeHand}
 
 pub spin-inside : 0 + SPIN_WORDS ≤ LOCK_WORDS
 spin-inside = omega arith

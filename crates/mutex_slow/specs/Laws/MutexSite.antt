@@ -1,7 +1,6 @@
 -- A call of the site leaves what stands beside a mutex's pass of it.
 use Rattle.std.proofs.Common.{◌≡◌, ◌∙◌, refl, sym, ap, subst}
 use Rattle.word_bits.specs.Objects.{Obj}
-use Rattle.lock_core.specs.declared.pass.Pass.{Pass}
 use Rattle.lock_core.specs.SiteHandles as inner
 use Rattle.lock_core.specs.Views.{Beside, SpinRests}
 use Rattle.lock_core.specs.Faces.{Follows, KeepsHold}
@@ -9,10 +8,10 @@ use Rattle.lock_core.specs.Sitting.{SitsIdle}
 use Rattle.mutex_slow.specs.declared.calls.Mutex.{Mutex}
 use Rattle.mutex_slow.specs.declared.calls.MutexPass.{MutexPass}
 use Rattle.mutex_slow.specs.declared.rule.MutexRule.{MutexRule}
-use Rattle.mutex_slow.specs.declared.view.MutexHand.{MutexHand}
 use Rattle.mutex_slow.specs.MutexHandles.{plan_of, shown_of, SitsAt}
 use Rattle.mutex_slow.specs.Mutexes.{V, OwesNoWake}
 use Rattle.mutex_slow.specs.MutexPlaces.{line_of}
+use Rattle.mutex_slow.specs.Types.{Pass, MutexHand}
 
 -- the wakes that a pass owes are told by the word that its last hold left, and by its duty
 clear-same : (v u : V) → u.ext ≡ v.ext → u.hand.freed ≡ v.hand.freed → OwesNoWake v → OwesNoWake u

@@ -4,25 +4,17 @@ use Rattle.std.proofs.Common.{get_or-set_other}
 use mathlib.Core.Logic.{dite}
 use native.Mathlib.Decide.{ℕ_discrete}
 use Rattle.word_bits.specs.declared.TheConstants.{MAX_TASKS}
-use Rattle.lock_core.specs.declared.view.Held.TheVariants.{No, Alone}
 use Rattle.lock_core.specs.Records.{bit}
 use Rattle.lock_core.specs.Spins.{holds_in}
 use Rattle.lock_core.specs.Views.{held_weight}
 use Rattle.lock_core.proofs.HandLaws.{false-or-true}
-use Rattle.wait_list.specs.declared.view.Waiter.{Waiter}
-use Rattle.wait_list.specs.declared.view.Change.{Change}
-use Rattle.wait_list.specs.declared.view.Change.TheVariants.{Stay}
 use Rattle.wait_list.specs.Laws.List.{holds-or-not}
 use Rattle.wait_list.specs.Lists.{first_code}
-use Rattle.wake_duty.specs.declared.view.Duty.{Duty}
-use Rattle.wake_duty.specs.declared.view.Duty.TheVariants.{NoDuty, Owing, Chosen}
-use Rattle.wake_duty.specs.declared.view.WaitState.{WaitState}
-use Rattle.wake_duty.specs.declared.view.WaitState.TheVariants.{Absent, Awake, Tried}
-use Rattle.wake_duty.specs.declared.view.WakeHand.{WakeHand}
 use Rattle.wake_duty.specs.DutyWakes.{WAKE_WORDS, wake_word, owed, chose_any, choosing, duty_of, after_failed_try, awakened, failing, looking, setting, drowsing}
 use Rattle.wake_duty.specs.WakeMoves.{ChoosesFirst, WordGoes}
 use Rattle.mutex_slow.specs.Mutexes.{V, HasLock, OwesNoWake, FailsUnderLock, IsUnpicked, MayChoose, EndsChoice, WakesGo, awake_bit, chosen_code, debt_of, entered, left, standing_of}
 use Rattle.mutex_slow.specs.Laws.Duty.{choosing-or}
+use Rattle.mutex_slow.specs.Types.{No, Alone, Waiter, Change, Stay, Duty, NoDuty, Owing, Chosen, WaitState, Absent, Awake, Tried, WakeHand}
 
 -- what a step does by which this view becomes that one
 abbrev pub StandingGoes : ℕ → List Waiter → Change → List ℕ → List ℕ → V → V → Type 0

@@ -2,17 +2,14 @@
 use Rattle.std.proofs.Common.{◌≡◌, ◌≢◌, ℕ, zero, suc, ◌+◌, ◌*◌, ◌%◌, ◌<◌, ◌≤◌, ◌⊎◌, inl, inr, List, [], ◌∷◌, ◌++◌, set, Option, Some, None, sym, refl, ap, ◌∙◌, arith}
 use mathlib.Core.Option.{some, some-injective, some-ne-none}
 use lib.ListN.{get_elem?}
-use Rattle.word_bits.specs.declared.entry.Entry.{Entry}
 use Rattle.word_bits.specs.Histories.{Plan}
-use Rattle.lock_core.specs.declared.view.Hand.{Hand}
-use Rattle.lock_core.specs.declared.view.Held.{Held}
-use Rattle.lock_core.specs.declared.view.Held.TheVariants.{No, Shared, Alone}
 use Rattle.lock_core.specs.Views.{stranger, held_weight, held_of}
 use Rattle.lock_core.specs.Totals.{total, total-set, total-same, total-snoc, total-at, total-two}
 use Rattle.lock_core.specs.ViewParts.{Each, each-set, each-snoc}
 use Rattle.lock_core.proofs.HandLaws.{held-none, number-or-not}
 use Rattle.lock_core.proofs.WordSteps.{some-of}
 use Rattle.mutex_word.specs.Holders.{own_word, held_code, code_of, OwnKept, StatesHolder}
+use Rattle.mutex_word.specs.Types.{Entry, Hand, Held, No, Shared, Alone}
 use Rattle.word_bits.specs.declared.TheConstants.{MAX_TASKS}
 
 -- a pass without a number holds nothing

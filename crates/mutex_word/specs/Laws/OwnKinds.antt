@@ -4,13 +4,12 @@ use mathlib.Core.Option.{some}
 use lib.ListN.{get_elem?}
 use lib.Bits.{bit_and, bit_or}
 use Rattle.std.proofs.lemmas.Nat.{or_shr, and_shr, and_mask, or_mod, and_mod, le_or_r, or_comm}
-use Rattle.lock_core.specs.declared.view.Hand.{Hand}
-use Rattle.lock_core.specs.declared.view.Held.TheVariants.{No, Alone}
 use Rattle.lock_core.specs.Views.{held_weight, held_of}
 use Rattle.lock_core.specs.Totals.{total-set, total-at}
 use Rattle.lock_core.specs.ViewParts.{each-set}
 use Rattle.mutex_word.specs.Holders.{code_of, OwnKept}
 use Rattle.mutex_word.specs.Laws.Own.{Named, no-holders, no-codes, only-code, free-code, alone-code, own-stays}
+use Rattle.mutex_word.specs.Types.{Hand, No, Alone}
 use Rattle.word_bits.specs.declared.TheConstants.{MAX_TASKS}
 
 module _ (hs : List Hand) (id n : ℕ) (h g : Hand) (r : OwnKept n hs) (at : get_elem? hs id ≡ some h) where

@@ -8,9 +8,6 @@ use Rattle.atomic_table.proofs.Lists.{at_map, set_else}
 use Rattle.word_bits.specs.LockWords.{owned}
 use Rattle.word_bits.specs.Objects.{Obj}
 use Rattle.word_bits.specs.Histories.{Plan}
-use Rattle.lock_core.specs.declared.view.Hand.{Hand}
-use Rattle.lock_core.specs.declared.view.SpinHand.{SpinHand}
-use Rattle.lock_core.specs.declared.view.Held.TheVariants.{No}
 use Rattle.lock_core.specs.declared.layout.TheConstants.{LOCK_WORDS}
 use Rattle.lock_core.specs.Layout.{SiteWords, fresh, site, lay, width}
 use Rattle.lock_core.specs.Stores.{HasWord}
@@ -23,6 +20,7 @@ use Rattle.lock_core.proofs.Stating.{kept-states}
 use Rattle.mutex_word.specs.Holders.{OwnKept}
 use Rattle.mutex_word.specs.Laws.Own.{Named, own-stays, own-strangers, own-opens, own-states}
 use Rattle.mutex_word.specs.OwnerRuled.{V, IsPlain, IsOwnerSite, OwnerKept, OwnerMoves, owner_at}
+use Rattle.mutex_word.specs.Types.{Hand, SpinHand, No}
 
 abbrev Rests : V → Type 0
 Rests v = Unit {0}

@@ -9,12 +9,9 @@ use lib.ListN.{get_elem?}
 use Rattle.atomic_table.proofs.Lists.{at_longer, at_map, set_else}
 use Rattle.word_bits.specs.declared.TheConstants.{MAX_TASKS}
 use Rattle.word_bits.specs.Histories.{Plan}
-use Rattle.lock_core.specs.declared.view.Hand.{Hand}
-use Rattle.lock_core.specs.declared.view.Marks.{Marks}
 use Rattle.lock_core.specs.declared.layout.TheConstants.{LOCK_WORDS}
 use Rattle.lock_core.specs.Nothings.{never, nothing}
 use Rattle.lock_core.specs.Layout.{SiteWords, site, width, fresh}
-use Rattle.lock_core.specs.declared.view.SpinHand.{SpinHand}
 use Rattle.lock_core.specs.Views.{hand_of, named_of, is_number, SpinStays, seated, ticked, first, split_off, merged, spent}
 use Rattle.lock_core.specs.Sites.{SiteKept}
 use Rattle.lock_core.specs.Moves.{Goes, KeepsHold, SiteMove}
@@ -24,15 +21,13 @@ use Rattle.lock_core.specs.ViewParts.{Each, each-set, each-snoc, set_part, snoc_
 use Rattle.lock_core.proofs.HandLaws.{is_number-here, is_number-else}
 use Rattle.lock_core.specs.NodeLists.{Has, IsFirst, last_from}
 use Rattle.lock_core.specs.Laws.NodeList.{first-has, right-has, last-none}
-use Rattle.osq_nodes.specs.declared.node.Place.{Place}
-use Rattle.osq_nodes.specs.declared.node.Place.TheVariants.{Out, Cleared, Swapped, Linking, Waiting, Unlinked, Splicing, Relinking, Head, Granting}
-use Rattle.osq_nodes.specs.declared.node.Node.{Node}
 use Rattle.osq_nodes.specs.OsqKept.{IsAt, RowKept}
 use Rattle.osq_nodes.specs.OsqPlaces.{IsHeadNode, is_swap, is_coming_first, is_queued, numbers_of, node_marks, place_in, swaps_in, found_in}
 use Rattle.osq_nodes.specs.Laws.Walks.{is-queue, are-linked, head-is, queue-same}
 use Rattle.osq_nodes.specs.Words.{row_of, tail_in, next_in, prev_in, locked_in, next_at}
 use Rattle.osq_nodes.specs.OsqStated.{IsQueue, AreLinked, IsSpinQueue, Changes, seat_place, places}
 use Rattle.osq_nodes.specs.OsqRuled.{V, idle, table_at, Seated, OsqKept, NodeStep, OsqMoves, node_after, fronts_after}
+use Rattle.osq_nodes.specs.Types.{Hand, Marks, SpinHand, Place, Out, Cleared, Swapped, Linking, Waiting, Unlinked, Splicing, Relinking, Head, Granting, Node}
 
 module _ (size : ℕ) (row : List ℕ) (place : ℕ → Place) (q : List ℕ) (r : RowKept size row place q) where
   pub row-queue : IsQueue (tail_in row) (prev_in row) (locked_in row) place q

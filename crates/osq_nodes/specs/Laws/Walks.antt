@@ -2,12 +2,11 @@
 use Rattle.std.proofs.Common.{◌≡◌, ℕ, zero, suc, List, [], ◌∷◌, reverse, refl, sym, ap, ◌∙◌, subst, inl, inr, arith}
 use Rattle.std.proofs.lemmas.List.{reverse-reverse}
 use mathlib.Core.List.{reverse_aux}
-use Rattle.osq_nodes.specs.declared.node.Place.{Place}
-use Rattle.osq_nodes.specs.declared.node.Place.TheVariants.{Out, Cleared, Swapped, Linking, Waiting, Unlinked, Splicing, Relinking, Head, Granting}
 use Rattle.lock_core.specs.NodeLists.{IsFirst, Precedes, last_from}
 use Rattle.osq_nodes.specs.OsqPlaces.{back_of, IsHeadNode, Owes}
 use Rattle.osq_nodes.specs.OsqStated.{IsWalk, IsQueue, AreLinked}
 use Rattle.osq_nodes.specs.OsqKept.{IsBehind, IsHead, IsAt, QueueKept}
+use Rattle.osq_nodes.specs.Types.{Place, Out, Cleared, Swapped, Linking, Waiting, Unlinked, Splicing, Relinking, Head, Granting}
 
 same-end : (x y c : ℕ) → c ≡ suc x → c ≡ suc y → x ≡ y
 same-end x y c e f = omega arith

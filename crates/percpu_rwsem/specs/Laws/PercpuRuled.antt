@@ -10,8 +10,6 @@ use Rattle.atomic_table.proofs.Lists.{at_map, at_longer, at_snoc, set_else}
 use Rattle.word_bits.specs.declared.TheConstants.{MAX_TASKS}
 use Rattle.word_bits.specs.Objects.{Obj}
 use Rattle.word_bits.specs.Histories.{Plan}
-use Rattle.lock_core.specs.declared.view.Hand.{Hand}
-use Rattle.lock_core.specs.declared.view.SpinHand.{SpinHand}
 use Rattle.lock_core.specs.declared.layout.TheConstants.{LOCK_WORDS}
 use Rattle.lock_core.specs.Layout.{SiteWords, fresh, site, lay, width}
 use Rattle.lock_core.specs.Views.{hand_of, seated, ticked, first, split_off, merged, spent, HoldsNothing}
@@ -19,12 +17,11 @@ use Rattle.lock_core.specs.Sites.{HandGoes, KeepsSaw, SiteKept}
 use Rattle.lock_core.specs.Moves.{Goes, KeepsHold, SiteMove}
 use Rattle.lock_core.specs.Laws.Move.{set-moves, hold-moved}
 use Rattle.lock_core.specs.ViewParts.{keep_part, set_part, set-there, snoc_part}
-use Rattle.percpu_rwsem.specs.declared.view.Phase.{Phase}
-use Rattle.percpu_rwsem.specs.declared.view.Phase.TheVariants.{Idle, Added, Back, Reads, Blocks}
 use Rattle.percpu_rwsem.specs.Phases.{PhasePart, PhasesKept, phase_part, part}
 use Rattle.percpu_rwsem.specs.Laws.Phase.{stranger_part, phases-stay, phases-strangers, phases-open}
 use Rattle.percpu_rwsem.specs.PhaseSteps.{PhaseGoes, SameWords, Words}
 use Rattle.percpu_rwsem.specs.PercpuRuled.{V, KeepsTask, NewAreIdle, OthersStay, PercpuKept, PercpuMoves, Phases, block_at, count_at, never, words_in}
+use Rattle.percpu_rwsem.specs.Types.{Hand, SpinHand, Phase, Idle, Added, Back, Reads, Blocks}
 
 abbrev Rests : V → Type 0
 Rests v = v.ext ≡ Idle

@@ -1,15 +1,14 @@
 -- A call of the site that leaves a pass its number and its hold leaves its phase.
 use Rattle.std.proofs.Common.{◌≡◌, ◌∙◌, length, refl, sym, ap, subst}
-use Rattle.lock_core.specs.declared.pass.Pass.{Pass}
 use Rattle.lock_core.specs.SiteHandles as inner
 use Rattle.lock_core.specs.Views.{Beside}
 use Rattle.lock_core.specs.Faces.{Follows, KeepsHold}
 use Rattle.percpu_rwsem.specs.declared.pass.PercpuPass.{PercpuPass}
 use Rattle.percpu_rwsem.specs.declared.rule.PercpuRule.{PercpuRule}
 use Rattle.percpu_rwsem.specs.declared.site.PercpuRwSem.{PercpuRwSem}
-use Rattle.percpu_rwsem.specs.declared.view.Phase.{Phase}
 use Rattle.percpu_rwsem.specs.PercpuHandles.{SitsAt, phase_by, plan_of, seen_in, shown_of, view_of}
 use Rattle.percpu_rwsem.specs.Phases.{PartOk, phase_part}
+use Rattle.percpu_rwsem.specs.Types.{Pass, Phase}
 
 pub percpu-frame : {O C : Type 0} (s : PercpuRwSem O C) (p : PercpuPass O C) (w : Pass (PercpuRule O) O Phase C) → SitsAt s p → inner.SitsAt s.site w → Beside (view_of p) (inner.view_of w)
     → KeepsHold p.pass w → SitsAt s (record p { pass = w }) × Follows w (shown_of p) (shown_of (record p { pass = w }))

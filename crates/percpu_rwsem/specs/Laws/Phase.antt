@@ -6,13 +6,11 @@ use native.Mathlib.Decide.{ℕ_discrete}
 use lib.ListN.{get_elem?}
 use Rattle.atomic_table.proofs.Lists.{at_set, at_snoc}
 use Rattle.word_bits.specs.declared.TheConstants.{MAX_TASKS}
-use Rattle.lock_core.specs.declared.view.Held.TheVariants.{No, Shared, Alone}
 use Rattle.lock_core.specs.Views.{held_weight, alone_weight, is_number}
 use Rattle.lock_core.specs.Totals.{total, total-set, total-snoc, total-at}
 use Rattle.lock_core.specs.ViewParts.{Each, each-set, each-snoc}
-use Rattle.percpu_rwsem.specs.declared.view.Phase.{Phase}
-use Rattle.percpu_rwsem.specs.declared.view.Phase.TheVariants.{Idle, Added, Back, Reads, Blocks}
 use Rattle.percpu_rwsem.specs.Phases.{PhasePart, PartOk, PhasesKept, inside_of, code_of, blocks_of, inside_weight, code_weight, blocks_weight, held_by}
+use Rattle.percpu_rwsem.specs.Types.{No, Shared, Alone, Phase, Idle, Added, Back, Reads, Blocks}
 
 pub no-shared : {P : Type 0} → No ≡ Shared → P
 no-shared e = let w : held_weight No ≡ held_weight Shared = ap held_weight e in absurd (omega (arith, w))

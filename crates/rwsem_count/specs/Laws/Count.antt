@@ -2,13 +2,10 @@
 use Rattle.std.proofs.Common.{◌≡◌, ℕ, ◌+◌, ◌-◌, ◌/◌, ◌%◌, ◌<◌, ◌⊎◌, inl, inr, List, [], ◌∷◌, ◌++◌, set, refl, ap, arith}
 use mathlib.Core.Option.{some}
 use lib.ListN.{get_elem?}
-use Rattle.lock_core.specs.declared.view.Held.{Held}
-use Rattle.lock_core.specs.declared.view.Held.TheVariants.{No, Shared, Alone}
 use Rattle.lock_core.specs.Views.{alone_weight}
 use Rattle.lock_core.specs.Totals.{total, total-set, total-same, total-at, total-snoc}
-use Rattle.rwsem_count.specs.declared.view.Bias.{Bias}
-use Rattle.rwsem_count.specs.declared.view.Bias.TheVariants.{Clear, Transit, Reserve}
 use Rattle.rwsem_count.specs.Counts.{CountPart, CountKept, shared_weight, early_weight, late_weight, shared_in, alone_in, early_in, late_in}
+use Rattle.rwsem_count.specs.Types.{Held, No, Shared, Alone, Bias, Clear, Transit, Reserve}
 
 -- what a pass adds to the count
 pub record Adds (p : CountPart) (alone shared early late : ℕ) : Type 0 where

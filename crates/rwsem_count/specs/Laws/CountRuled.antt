@@ -10,15 +10,10 @@ use Rattle.word_bits.specs.LockWords.{IsLawfulCount, counted}
 use Rattle.word_bits.specs.OwnerWord.{bit}
 use Rattle.word_bits.specs.Objects.{Obj}
 use Rattle.word_bits.specs.Histories.{Plan}
-use Rattle.lock_core.specs.declared.view.Hand.{Hand}
-use Rattle.lock_core.specs.declared.view.Held.{Held}
-use Rattle.lock_core.specs.declared.view.Marks.{Marks}
-use Rattle.lock_core.specs.declared.view.Held.TheVariants.{No, Shared, Alone}
-use Rattle.lock_core.specs.declared.view.SpinHand.{SpinHand}
 use Rattle.lock_core.specs.declared.layout.TheConstants.{LOCK_WORDS}
 use Rattle.lock_core.specs.Layout.{SiteWords, fresh, site, lay, width}
 use Rattle.lock_core.specs.Stores.{HasWord}
-use Rattle.lock_core.specs.Views.{hand_of, handed, seated, ticked, first, split_off, merged, spent, is_number, named_of, held_weight, alone_of, HoldsNothing}
+use Rattle.lock_core.specs.Views.{hand_of, handed, seated, ticked, first, split_off, merged, spent, is_number, named_of, held_weight, number_weight, alone_of, HoldsNothing}
 use Rattle.lock_core.specs.Sites.{SiteKept}
 use Rattle.lock_core.specs.Moves.{Goes, KeepsHold, SiteMove, TriesWhere}
 use Rattle.lock_core.specs.Laws.Move.{set-moves, hold-moved, tries-go}
@@ -27,13 +22,12 @@ use Rattle.lock_core.specs.Totals.{total}
 use Rattle.lock_core.specs.ViewParts.{Each, each-set, each-snoc, keep_part, set_part, snoc_part}
 use Rattle.lock_core.proofs.Stating.{kept-states}
 use Rattle.lock_core.proofs.HandLaws.{held-none}
-use Rattle.rwsem_count.specs.declared.view.Bias.{Bias}
-use Rattle.rwsem_count.specs.declared.view.Bias.TheVariants.{Clear, Transit, Reserve}
 use Rattle.rwsem_count.specs.Counts.{CountKept, CountMove, CountPart, HandStep, shared_weight, early_weight, late_weight, shared_in, alone_in, early_in, late_in, based, count_part, part}
 use Rattle.rwsem_count.specs.Laws.Count.{count-stays, count-strangers, count-opens}
-use Rattle.rwsem_count.specs.Laws.Numbers.{few-numbers, number_weight}
+use Rattle.rwsem_count.specs.Laws.Numbers.{few-numbers}
 use Rattle.rwsem_count.specs.CountStated.{kept_bias, shared_of, transit_of}
 use Rattle.rwsem_count.specs.CountRuled.{V, same_bias, new_bias, IsPlain, bias_kind, IsLight, may_count, may_miss, count_at, CountRuleKept, CountMoves, IsCountSite}
+use Rattle.rwsem_count.specs.Types.{Hand, Held, Marks, No, Shared, Alone, SpinHand, Bias, Clear, Transit, Reserve}
 
 pub count-inside : count_at < LOCK_WORDS
 count-inside = omega arith

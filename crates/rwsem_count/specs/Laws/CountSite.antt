@@ -1,15 +1,14 @@
 -- A call of the site leaves what a pass says beside it.
 use Rattle.std.proofs.Common.{◌≡◌, ◌∙◌, refl, sym, ap, subst}
-use Rattle.lock_core.specs.declared.pass.Pass.{Pass}
 use Rattle.lock_core.specs.SiteHandles as inner
 use Rattle.lock_core.specs.Views.{Beside}
 use Rattle.lock_core.specs.Faces.{Follows, KeepsHold}
 use Rattle.rwsem_count.specs.declared.pass.CountPass.{CountPass}
 use Rattle.rwsem_count.specs.declared.rule.CountRule.{CountRule}
 use Rattle.rwsem_count.specs.declared.site.CountSite.{CountSite}
-use Rattle.rwsem_count.specs.declared.view.Bias.{Bias}
 use Rattle.rwsem_count.specs.CountHandles.{SitsAt, shown_of}
 use Rattle.rwsem_count.specs.CountRuled.{V, IsLight, bias_kind}
+use Rattle.rwsem_count.specs.Types.{Pass, Bias}
 
 light-same : (v u : V) → u.hand.task ≡ v.hand.task → u.hand.held ≡ v.hand.held → u.ext ≡ v.ext → IsLight v → IsLight u
 light-same v u t h e is = subst (λ b. IsLight (record u { ext = b })) (sym e)

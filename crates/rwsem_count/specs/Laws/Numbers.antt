@@ -3,14 +3,10 @@ use Rattle.std.proofs.Common.{◌≡◌, ℕ, zero, suc, ◌+◌, ◌<◌, ◌�
 use mathlib.Core.Logic.{dite}
 use native.Mathlib.Decide.{ℕ_discrete}
 use Rattle.word_bits.specs.declared.TheConstants.{MAX_TASKS}
-use Rattle.lock_core.specs.Views.{is_number}
+use Rattle.lock_core.specs.Views.{is_number, number_weight}
 use Rattle.lock_core.specs.Totals.{total}
 use Rattle.lock_core.specs.ViewParts.{Each}
 use Rattle.lock_core.proofs.HandLaws.{is_number-here}
-
-abbrev pub number_weight : Option ℕ → ℕ
-number_weight None = 0
-number_weight (Some task) = 1
 
 total-both : {V : Type 0} (f g : V → ℕ) (vs : List V) → total (λ v. f v + g v) vs ≡ total f vs + total g vs
 total-both f g [] = omega arith

@@ -6,9 +6,6 @@ use Rattle.atomic_table.proofs.Lists.{at_map}
 use Rattle.word_bits.specs.LockWords.{IsLawfulCount, counted}
 use Rattle.word_bits.specs.Objects.{Obj}
 use Rattle.word_bits.specs.Histories.{Plan}
-use Rattle.lock_core.specs.declared.view.Hand.{Hand}
-use Rattle.lock_core.specs.declared.view.Held.{Held}
-use Rattle.lock_core.specs.declared.view.Held.TheVariants.{No, Shared, Alone}
 use Rattle.lock_core.specs.declared.layout.TheConstants.{LOCK_WORDS}
 use Rattle.lock_core.specs.Layout.{site}
 use Rattle.lock_core.specs.Views.{SpinHolds, hand_of, is_number}
@@ -16,11 +13,7 @@ use Rattle.lock_core.specs.Sites.{SiteKept}
 use Rattle.lock_core.specs.Totals.{total}
 use Rattle.lock_core.proofs.HandLaws.{is_number-else, number-or-not}
 use Rattle.lock_core.specs.Spins.{holds_in}
-use Rattle.wait_list.specs.declared.view.Waiter.{Waiter}
-use Rattle.wait_list.specs.declared.view.Change.TheVariants.{Stay}
-use Rattle.rwsem_count.specs.declared.view.Bias.{Bias}
 use Rattle.rwsem_count.specs.Counts.{CountKept, CountMove, CountPart, HandStep, based, count_part, part, shared_weight}
-use Rattle.rwsem_wake.specs.declared.view.SemHand.{SemHand}
 use Rattle.rwsem_wake.specs.SemParts.{SemPart, busy_of, busy_weight, granted_at, granted_weight, granting_weight, here, named_weight, part_of, reads_of, reads_weight}
 use Rattle.rwsem_wake.specs.GrantSemaphores.{SemKept, SemPartOk, more_of}
 use Rattle.rwsem_wake.specs.Handoffs.{KeepsHandoff, Unasked, granting_at, reads_as}
@@ -33,6 +26,7 @@ use Rattle.rwsem_slow.specs.WakesGo.{WakesGo, wake_stands}
 use Rattle.rwsem_slow.specs.Laws.WakesGo.{count-goes}
 use Rattle.rwsem_slow.specs.Laws.DutyRule.{Duties, duties-counted}
 use Rattle.rwsem_slow.specs.Laws.RwSem.{Go as Going, SemWords, Tries, sem_words, sem-lawful, sem-only, sem-turns}
+use Rattle.rwsem_slow.specs.Types.{Hand, Held, No, Shared, Alone, Waiter, Stay, Bias, SemHand}
 
 pub bias-back : (v : V) (h : Hand) (b : Bias) → bias_of (biased v h b) ≡ b
 bias-back v h b = refl

@@ -7,33 +7,18 @@ use native.Mathlib.Decide.{ℕ_discrete}
 use lib.ListN.{get_elem?}
 use Rattle.atomic_table.proofs.Lists.{at_map, set_again}
 use Rattle.word_bits.specs.declared.TheConstants.{MAX_TASKS}
-use Rattle.lock_core.specs.declared.view.Hand.{Hand}
-use Rattle.lock_core.specs.declared.view.Held.{Held}
-use Rattle.lock_core.specs.declared.view.Held.TheVariants.{No, Shared, Alone}
 use Rattle.lock_core.specs.Records.{bit}
 use Rattle.lock_core.specs.Views.{alone_weight, held_weight, is_number}
 use Rattle.lock_core.specs.Totals.{total, total-set, total-at, total-two}
 use Rattle.lock_core.specs.ViewParts.{Each, at_unmap, each-set, keep_part, set_part, set-there}
 use Rattle.lock_core.proofs.HandLaws.{false-or-true, is_number-here, not-both}
 use Rattle.lock_core.proofs.RowLaws.{none-some}
-use Rattle.wait_list.specs.declared.view.Waiter.{Waiter}
-use Rattle.wait_list.specs.declared.view.Change.TheVariants.{Enter, Leave}
-use Rattle.wait_list.specs.declared.view.ListHand.{ListHand}
 use Rattle.wait_list.specs.Lists.{AreTasks, first_code, listed, without}
-use Rattle.wake_duty.specs.declared.view.WaitState.TheVariants.{Awake}
 use Rattle.wake_duty.specs.DutyWakes.{awake, waits, wake_word}
-use Rattle.rwsem_wake.specs.declared.duty.SemWake.{SemWake}
 use Rattle.rwsem_wake.specs.SemDuties.{DutyPart, DutyKept, IsQuiet, alone_of as alone_in_duty, late_of as late_in_duty, owes, attends, chose, wakes_it, where_so, first_writes, wakes_first, recounted}
 use Rattle.rwsem_wake.specs.SemDuties.{entering, leaving}
 use Rattle.rwsem_wake.specs.Laws.SemDuty.{duty-guards, duty-owes, duty-ends, duty-lets-go, duty-writes, duty-unwaited, duty-enters, duty-leaves, duty-picks, duty-chooses, duty-quiet, duty-pays}
-use Rattle.rwsem_count.specs.declared.view.Bias.{Bias}
-use Rattle.rwsem_count.specs.declared.view.Bias.TheVariants.{Clear, Transit, Reserve}
 use Rattle.rwsem_count.specs.Counts.{early_weight, late_weight, part, shared_in, shared_weight}
-use Rattle.rwsem_wake.specs.declared.view.SemHand.{SemHand}
-use Rattle.rwsem_wake.specs.declared.view.Wait.{Wait}
-use Rattle.rwsem_wake.specs.declared.view.Wait.TheVariants.{Apart, Reads, Writes}
-use Rattle.rwsem_wake.specs.declared.view.Stage.{Stage}
-use Rattle.rwsem_wake.specs.declared.view.Stage.TheVariants.{Rest, Armed, Joining, First, Marking, Took, Removed, Emptied, Overdue, Marked, Removing, Summing, Counted, Granting}
 use Rattle.rwsem_wake.specs.SemParts.{SemPart, alone_of, apart_hand, busy_of, busy_weight, granted_of, granted_weight, granting_of, granting_weight, is_zero, nobody, reads_weight, reserve_weight}
 use Rattle.rwsem_wake.specs.SemParts.{part_of, shared_of, some_of, transit_of, transit_weight, writes_weight, writes_at, writer_at, named_weight}
 use Rattle.rwsem_wake.specs.GrantSemaphores.{SemKept, SemPartOk, FlagsAt, FlagsOf, now, pick}
@@ -43,6 +28,8 @@ use Rattle.rwsem_wake.proofs.DutySteps.{field-is, writer-is, guards-are, late-ar
 use Rattle.rwsem_wake.proofs.Sums.{busy-most, now-at}
 use Rattle.rwsem_wake.specs.RwSemViews.{V, MayPick, gone, picked, sem_of, with_list, IsDone, joined, leaves_wake, chooses_task, looked, looks_at, parted, parted_wake, seen}
 use Rattle.rwsem_slow.specs.RwSems.{LeavesBehind, LeavesFirst, LeavesTaken, MayJoin, biased, may_count, IsStaged, duty_seen, has_waiters, owes_after}
+use Rattle.rwsem_slow.specs.Types.{Hand, Held, No, Shared, Alone, Waiter, Enter, Leave, ListHand, Awake, SemWake, Bias, Clear, Transit, Reserve, SemHand, Wait, Apart, Reads, Writes, Stage}
+use Rattle.rwsem_slow.specs.Types.{Rest, Armed, Joining, First, Marking, Took, Removed, Emptied, Overdue, Marked, Removing, Summing, Counted, Granting}
 
 -- the facts of the wake words, and that each pass stands as its stage asks
 abbrev pub Duties : List ℕ → List ℕ → List Waiter → List V → Type 0

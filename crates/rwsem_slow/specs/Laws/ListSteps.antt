@@ -5,19 +5,12 @@ use mathlib.Core.Option.{some}
 use mathlib.Core.Logic.{dite}
 use native.Mathlib.Decide.{ℕ_discrete}
 use lib.ListN.{get_elem?}
-use Rattle.lock_core.specs.declared.view.Held.TheVariants.{No}
+use Rattle.rwsem_slow.specs.Types.{No, Waiter, Bias, Clear, SemHand, Apart, Reads, Writes, Stage, Rest, Armed, Joining, First, Took, Removed, Emptied, Overdue, Removing, Summing}
 use Rattle.lock_core.specs.Records.{bit}
 use Rattle.lock_core.specs.Totals.{total, total-at}
 use Rattle.lock_core.proofs.HandLaws.{is_number-here}
-use Rattle.wait_list.specs.declared.view.Waiter.{Waiter}
 use Rattle.wait_list.specs.Lists.{counted, first_code, without}
-use Rattle.rwsem_count.specs.declared.view.Bias.{Bias}
-use Rattle.rwsem_count.specs.declared.view.Bias.TheVariants.{Clear}
 use Rattle.rwsem_count.specs.Counts.{early_weight, late_weight}
-use Rattle.rwsem_wake.specs.declared.view.SemHand.{SemHand}
-use Rattle.rwsem_wake.specs.declared.view.Wait.TheVariants.{Apart, Reads, Writes}
-use Rattle.rwsem_wake.specs.declared.view.Stage.{Stage}
-use Rattle.rwsem_wake.specs.declared.view.Stage.TheVariants.{Rest, Armed, Joining, First, Took, Removed, Emptied, Overdue, Removing, Summing}
 use Rattle.rwsem_wake.specs.SemParts.{SemPart, busy_of, named_weight, reads_at, writes_at, granted_at, granting_of, granting_weight, here, reader_at, writer_at, reader_bit, reserve_weight, reserve_of}
 use Rattle.rwsem_wake.specs.SemParts.{early_of, late_of, some_of, marks_sum, first_mark, tasks}
 use Rattle.rwsem_wake.specs.GrantSemaphores.{FlagsAt, Quiet, SemKept, batch_weight, load_of}

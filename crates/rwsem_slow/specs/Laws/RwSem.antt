@@ -9,13 +9,10 @@ use Rattle.word_bits.specs.declared.TheConstants.{MAX_TASKS}
 use Rattle.word_bits.specs.LockWords.{IsLawfulCount, counted}
 use Rattle.word_bits.specs.Objects.{Obj}
 use Rattle.word_bits.specs.Histories.{Plan}
-use Rattle.lock_core.specs.declared.view.Hand.{Hand}
-use Rattle.lock_core.specs.declared.view.SpinHand.{SpinHand}
-use Rattle.lock_core.specs.declared.view.Held.TheVariants.{No}
 use Rattle.lock_core.specs.declared.layout.TheConstants.{LOCK_WORDS, SPIN_WORDS}
 use Rattle.lock_core.specs.Stores.{HasWord}
 use Rattle.lock_core.specs.Layout.{SiteWords, fresh, site, lay, width}
-use Rattle.lock_core.specs.Views.{SpinHolds, SpinStays, hand_of, spin_part, part_with, no_part, handed, seated, ticked, first, split_off, merged, spent, named_of, is_number, HoldsNothing}
+use Rattle.lock_core.specs.Views.{SpinHolds, SpinStays, hand_of, spin_part, part_with, no_part, handed, seated, ticked, first, split_off, merged, spent, named_of, is_number, number_weight, HoldsNothing}
 use Rattle.lock_core.specs.Sites.{KeepsSaw, SiteKept}
 use Rattle.lock_core.specs.Moves.{Goes, KeepsHold, SiteMove, TriesWhere}
 use Rattle.lock_core.specs.Laws.Move.{hand-stays, saw-stays, set-moves, hold-moved, spin-moved, tries-go}
@@ -26,24 +23,18 @@ use Rattle.lock_core.specs.Totals.{total, total-at, total-snoc}
 use Rattle.lock_core.specs.ViewParts.{Each, each-set, each-snoc, keep_part, set_part, set-there, snoc_part}
 use Rattle.lock_core.specs.Regions.{part-in, part-above, part-below, part-at, wide-part}
 use Rattle.lock_core.proofs.HandLaws.{number-or-not}
-use Rattle.wait_list.specs.declared.view.Waiter.{Waiter}
-use Rattle.wait_list.specs.declared.view.Change.{Change}
-use Rattle.wait_list.specs.declared.view.Change.TheVariants.{Stay}
 use Rattle.wait_list.specs.declared.words.TheConstants.{LIST_WORDS}
 use Rattle.wait_list.specs.Lists.{Part, ListKept, MadeBy, Allowed, changed, list_part, takes_of}
 use Rattle.wait_list.specs.Laws.List.{holds-or-not, list-spins, list-keeps, list-leaves, list-strangers, list-opens}
 use Rattle.rwsem_count.specs.Counts.{HandStep}
-use Rattle.rwsem_count.specs.Laws.Numbers.{few-numbers, number_weight as number_in}
-use Rattle.rwsem_wake.specs.declared.view.SemHand.{SemHand}
-use Rattle.rwsem_wake.specs.declared.view.Stage.TheVariants.{Rest}
+use Rattle.rwsem_count.specs.Laws.Numbers.{few-numbers}
 use Rattle.rwsem_wake.specs.SemParts.{SemPart, apart_hand, busy_of, busy_weight, nobody, transit_of, transit_weight}
-use Rattle.rwsem_wake.specs.GrantSemaphores.{SemKept, batch_weight, number_of, number_weight}
+use Rattle.rwsem_wake.specs.GrantSemaphores.{SemKept, batch_weight, number_of}
 use Rattle.rwsem_wake.specs.Handoffs.{KeepsHandoff, reads_as}
 use Rattle.rwsem_wake.specs.Grants.{with_changes}
 use Rattle.rwsem_wake.specs.Duties.{WakeGoes}
 use Rattle.rwsem_wake.proofs.DutySteps.{duty-goes-on}
 use Rattle.wake_duty.specs.DutyWakes.{WAKE_WORDS}
-use Rattle.rwsem_wake.specs.declared.duty.SemWake.{SemWake}
 use Rattle.rwsem_wake.specs.SemDuties.{DutyKept}
 use Rattle.rwsem_wake.specs.Laws.SemDuty.{duty-opens, duty-snoc}
 use Rattle.rwsem_slow.specs.WakesGo.{WakesGo, wake_stands}
@@ -56,6 +47,7 @@ use Rattle.rwsem_wake.proofs.Stating.{count-least}
 use Rattle.rwsem_wake.specs.RwSemViews.{with_wake, V, list_of, with_sem, seen, count_at, hint_at, list_at}
 use Rattle.rwsem_slow.specs.RwSems.{IsStaged, duty_seen, wake_words, wakes_at, MayMiss, idle, marks_at, grants_at, spin_words, count_in, list_words, marks_in, grants_in, IsLocked, RwSemKept}
 use Rattle.rwsem_slow.specs.RwSems.{Kept as IsKept, entered, IsMadeBy, KeepsCount, RwSemMoves, may_free, rests}
+use Rattle.rwsem_slow.specs.Types.{Hand, SpinHand, No, Waiter, Change, Stay, SemHand, Rest, SemWake}
 
 pub spin-inside : 0 + SPIN_WORDS ≤ LOCK_WORDS
 spin-inside = omega arith
@@ -166,19 +158,15 @@ module _ {Call : Type 0} (o : Obj Call) (size : ℕ) where
     pub few-named : total number_of (map seen vs) ≤ MAX_TASKS
     few-named = let n = numbers in let e = same vs in omega (arith, n, e)
       where
-        same : (xs : List V) → total number_of (map seen xs) ≡ total (λ (v : V). number_in v.hand.task) xs
+        same : (xs : List V) → total number_of (map seen xs) ≡ total (λ (v : V). number_weight v.hand.task) xs
         same [] = refl
-        same (x ∷ xs) = let e = same xs in let w = weight x.hand.task in omega (arith, e, w)
-          where
-            weight : (t : Option ℕ) → number_weight t ≡ number_in t
-            weight None = refl
-            weight (Some t) = refl
+        same (x ∷ xs) = let e = same xs in omega (arith, e)
 
         same-names : (t : ℕ) (xs : List V) → total (named_of t) (map hand_of xs) ≡ total (λ (v : V). is_number t v.hand.task) xs
         same-names t [] = refl
         same-names t (x ∷ xs) = let e = same-names t xs in omega (arith, e)
 
-        numbers : total (λ (v : V). number_in v.hand.task) vs ≤ MAX_TASKS
+        numbers : total (λ (v : V). number_weight v.hand.task) vs ≤ MAX_TASKS
         numbers = few-numbers (λ (v : V). v.hand.task) vs (λ t l. let a = (r.site_holds.balances.named t l).1 in let e = same-names t vs in omega (arith, a, e))
             (λ j v at t has. let m = (r.site_holds.each j v.hand (at_map hand_of vs j v at)).mine t has in let l = m.0 in let s = r.site_holds.laid.small.tasks in omega (arith, l, s))
 

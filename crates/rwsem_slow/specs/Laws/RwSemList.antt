@@ -9,7 +9,6 @@ use Rattle.word_bits.specs.LockWords.{counted as unavailable}
 use Rattle.word_bits.specs.Objects.{Obj}
 use Rattle.word_bits.specs.Histories.{Plan}
 use Rattle.lock_core.specs.declared.layout.TheConstants.{SPIN_WORDS}
-use Rattle.lock_core.specs.declared.view.Held.TheVariants.{Alone}
 use Rattle.lock_core.specs.Layout.{SiteWords, site}
 use Rattle.lock_core.specs.Views.{SpinHolds, hand_of, spin_part, named_of, is_number}
 use Rattle.lock_core.specs.Sites.{SiteKept}
@@ -22,24 +21,11 @@ use Rattle.lock_core.specs.Totals.{total, total-at}
 use Rattle.lock_core.specs.ViewParts.{Each, each-set, keep_part, set_part, set-there}
 use Rattle.lock_core.specs.Regions.{part-above, part-in, part-below}
 use Rattle.lock_core.proofs.HandLaws.{is_number-here, not-both}
-use Rattle.wait_list.specs.declared.view.Waiter.{Waiter}
-use Rattle.wait_list.specs.declared.view.Change.{Change}
-use Rattle.wait_list.specs.declared.view.Change.TheVariants.{Stay, Enter, Leave}
-use Rattle.wait_list.specs.declared.view.ListHand.{ListHand}
 use Rattle.wait_list.specs.declared.words.TheConstants.{LIST_WORDS}
 use Rattle.wait_list.specs.Laws.List.{list-known}
 use Rattle.wait_list.specs.Lists.{AreTasks, Part, ListKept, first_code, LeaverGoes, MadeBy, Allowed, changed, counted, list_part, listed, sighted, without}
-use Rattle.wake_duty.specs.declared.view.WaitState.TheVariants.{Awake}
 use Rattle.wake_duty.specs.DutyWakes.{WAKE_WORDS}
-use Rattle.rwsem_wake.specs.declared.duty.SemWake.{SemWake}
-use Rattle.rwsem_count.specs.declared.view.Bias.{Bias}
-use Rattle.rwsem_count.specs.declared.view.Bias.TheVariants.{Clear, Transit, Reserve}
 use Rattle.rwsem_wake.specs.GrantsStated.{IsFirstReader, Picks}
-use Rattle.rwsem_wake.specs.declared.view.SemHand.{SemHand}
-use Rattle.rwsem_wake.specs.declared.view.Wait.{Wait}
-use Rattle.rwsem_wake.specs.declared.view.Wait.TheVariants.{Apart, Reads, Writes}
-use Rattle.rwsem_wake.specs.declared.view.Stage.{Stage}
-use Rattle.rwsem_wake.specs.declared.view.Stage.TheVariants.{Rest, Armed, Joining, First, Marking, Took, Removed, Emptied, Overdue, Marked, Removing, Summing, Counted, Granting}
 use Rattle.rwsem_wake.specs.SemParts.{SemPart, busy_weight, busy_of, granted_at, granted_of, granted_weight, named_weight, reads_weight, writes_weight, reads_at, transit_of, transit_weight, writes_at}
 use Rattle.rwsem_wake.specs.SemParts.{rest_at, here}
 use Rattle.rwsem_wake.specs.GrantSemaphores.{SemPartOk, batch_weight}
@@ -57,6 +43,8 @@ use Rattle.rwsem_slow.specs.Laws.DutyRule.{Duties, duties-enter, duties-leave-be
 use Rattle.rwsem_slow.specs.Laws.RwSem.{SemWords, sem_words, sem-else, Go as Going, Sem, Hands, one-takes, sem-only, sem-only-in, goes, goes-on, hands-same, same-site}
 use Rattle.rwsem_wake.proofs.FirstReaders.{counted-is, first-counts, reader-counts}
 use Rattle.rwsem_slow.specs.Laws.ListSteps.{alone-long, enters-reader, enters-writer, leaves-first, leaves-picked, leaves-reader, leaves-taken, leaves-writer}
+use Rattle.rwsem_slow.specs.Types.{Alone, Waiter, Change, Stay, Enter, Leave, ListHand, Awake, SemWake, Bias, Clear, Transit, Reserve, SemHand, Wait, Apart, Reads, Writes, Stage, Rest}
+use Rattle.rwsem_slow.specs.Types.{Armed, Joining, First, Marking, Took, Removed, Emptied, Overdue, Marked, Removing, Summing, Counted, Granting}
 
 abbrev parted : V → Part
 parted v = list_part list_of v

@@ -1,7 +1,6 @@
 -- A call of the site leaves what stands beside a semaphore's pass of it.
 use Rattle.std.proofs.Common.{◌≡◌, ◌∙◌, refl, sym, ap, subst}
 use Rattle.word_bits.specs.Objects.{Obj}
-use Rattle.lock_core.specs.declared.pass.Pass.{Pass}
 use Rattle.lock_core.specs.SiteHandles as inner
 use Rattle.lock_core.specs.Views.{Beside, SpinRests}
 use Rattle.lock_core.specs.Faces.{Follows, KeepsHold}
@@ -9,8 +8,8 @@ use Rattle.lock_core.specs.Sitting.{SitsIdle}
 use Rattle.rwsem_slow.specs.declared.calls.RwSem.{RwSem}
 use Rattle.rwsem_slow.specs.declared.calls.RwPass.{RwPass}
 use Rattle.rwsem_slow.specs.declared.rule.SemRule.{SemRule}
-use Rattle.rwsem_wake.specs.declared.view.RwSemHand.{RwSemHand}
 use Rattle.rwsem_slow.specs.RwSemHandles.{plan_of, shown_of, SitsAt}
+use Rattle.rwsem_slow.specs.Types.{Pass, RwSemHand}
 use Rattle.rwsem_wake.specs.RwSemPlaces.{line_of}
 use Rattle.rwsem_wake.specs.RwSemViews.{IsDone}
 

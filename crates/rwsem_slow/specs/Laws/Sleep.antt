@@ -10,7 +10,6 @@ use Rattle.word_bits.specs.declared.TheConstants.{MAX_TASKS}
 use Rattle.word_bits.specs.LockWords.{counted}
 use Rattle.word_bits.specs.Objects.{Obj}
 use Rattle.word_bits.specs.Histories.{Plan}
-use Rattle.lock_core.specs.declared.view.Held.TheVariants.{No}
 use Rattle.lock_core.specs.declared.layout.TheConstants.{LOCK_WORDS, SPIN_WORDS}
 use Rattle.lock_core.specs.Layout.{SiteWords, site}
 use Rattle.lock_core.specs.Views.{SpinRests, hand_of, spin_part, is_number, named_of}
@@ -25,22 +24,13 @@ use Rattle.lock_core.specs.Totals.{total, total-two}
 use Rattle.lock_core.specs.ViewParts.{at_unmap, each-set, keep_part, set-there, set_part}
 use Rattle.lock_core.specs.Regions.{part-in, part-below, part-at}
 use Rattle.lock_core.proofs.HandLaws.{is_number-else, is_number-here}
-use Rattle.wait_list.specs.declared.view.Waiter.{Waiter}
-use Rattle.wait_list.specs.declared.view.Change.TheVariants.{Stay}
 use Rattle.wait_list.specs.Lists.{ListKept, Part, list_part, first_code}
 use Rattle.wait_list.specs.declared.words.TheConstants.{LIST_WORDS}
 use Rattle.wake_duty.specs.DutyWakes.{WAKE_WORDS, wake_word}
 use Rattle.wake_duty.specs.WakeSteps.{HasTried, knowing}
-use Rattle.wake_duty.specs.declared.view.WaitState.{WaitState}
-use Rattle.wake_duty.specs.declared.view.WaitState.TheVariants.{Tried}
-use Rattle.rwsem_count.specs.declared.view.Bias.{Bias}
-use Rattle.rwsem_count.specs.declared.view.Bias.TheVariants.{Clear, Transit, Reserve}
-use Rattle.rwsem_wake.specs.declared.duty.SemWake.{SemWake}
 use Rattle.rwsem_wake.specs.SemDuties.{DutyKept, DutyPart, drowsing, setting, first_writes}
 use Rattle.rwsem_wake.specs.Laws.SemDuty.{duty-sets, duty-drowses}
 use Rattle.rwsem_wake.specs.SemParts.{SemPart, busy_weight, writes_weight, writes_at, writer_at, named_weight}
-use Rattle.rwsem_wake.specs.declared.view.Wait.{Wait}
-use Rattle.rwsem_wake.specs.declared.view.Wait.TheVariants.{Apart, Reads, Writes}
 use Rattle.rwsem_wake.specs.RwSemViews.{V, HasChosen, after_set, list_at, list_of, seen, with_wake}
 use Rattle.rwsem_slow.specs.RwSems.{IsLocked, IsStaged, RwSemKept, after_swap, count_in, duty_seen, grants_in, list_words, spin_words, sleep_wait_state, sleeps_as, wake_words, wakes_at}
 use Rattle.rwsem_slow.specs.WakesGo.{WakesGo, wake_stands}
@@ -48,6 +38,7 @@ use Rattle.rwsem_slow.specs.Laws.WakesGo.{goes-drowses, goes-sets, none-owed, st
 use Rattle.rwsem_slow.specs.Laws.DutyRule.{Duties, staged-same}
 use Rattle.rwsem_wake.specs.Duties.{StageOk}
 use Rattle.rwsem_slow.specs.Laws.RwSem.{Go as Going, Hands, Sem, SemWords, goes, hands-same, same-site, sem-else, sem_words}
+use Rattle.rwsem_slow.specs.Types.{No, Waiter, Stay, WaitState, Tried, Bias, Clear, Transit, Reserve, SemWake, Wait, Apart, Reads, Writes}
 
 abbrev parted : V → Part
 parted v = list_part list_of v

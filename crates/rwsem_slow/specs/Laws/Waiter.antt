@@ -10,12 +10,12 @@ use Rattle.lock_core.specs.Records.{bit}
 use Rattle.lock_core.specs.Totals.{total}
 use Rattle.lock_core.specs.Views.{hand_of}
 use Rattle.lock_core.proofs.HandLaws.{false-or-true, not-both}
-use Rattle.wait_list.specs.declared.view.Waiter.{Waiter}
 use Rattle.wait_list.specs.Lists.{counted}
 use Rattle.rwsem_wake.specs.SemParts.{SemPart, named_weight, reads_at, reads_weight, writes_at, writes_weight}
 use Rattle.rwsem_wake.proofs.FirstReaders.{counted-is}
 use Rattle.rwsem_wake.specs.RwSemViews.{V, seen}
 use Rattle.rwsem_slow.specs.RwSems.{RwSemKept}
+use Rattle.rwsem_slow.specs.Types.{Waiter}
 
 -- whose weight in a total isn't 0
 pub view-of : {X : Type 0} (part : V → X) (f : X → ℕ) (vs : List V) → 0 < total f (map part vs) → (j : ℕ) × (v : V) × (get_elem? vs j ≡ some v) × (0 < f (part v))

@@ -4,30 +4,22 @@ use Rattle.std.proofs.Common.{eq-eqb, ne_eqb, length-append, get_or-set_same, ge
 use mathlib.Core.Logic.{dite}
 use native.Mathlib.Decide.{ℕ_discrete}
 use Rattle.word_bits.specs.declared.TheConstants.{MAX_TASKS}
-use Rattle.lock_core.specs.declared.view.Held.{Held}
-use Rattle.lock_core.specs.declared.view.Held.TheVariants.{No, Shared, Alone}
 use Rattle.lock_core.specs.Records.{bit}
 use Rattle.lock_core.proofs.HandLaws.{not-both}
 use Rattle.lock_core.proofs.RowLaws.{same-some}
-use Rattle.wait_list.specs.declared.view.Waiter.{Waiter}
-use Rattle.wait_list.specs.declared.view.Change.{Change}
-use Rattle.wait_list.specs.declared.view.Change.TheVariants.{Stay, Enter, Leave}
 use Rattle.wait_list.specs.Lists.{first_code}
-use Rattle.wake_duty.specs.declared.view.WaitState.{WaitState}
-use Rattle.wake_duty.specs.declared.view.WaitState.TheVariants.{Absent, Awake, Tried}
 use Rattle.wake_duty.specs.DutyWakes.{WAKE_WORDS, after_failed_try, wake_word, waits}
 use Rattle.wake_duty.specs.WakeMoves.{WordGoes}
-use Rattle.rwsem_wake.specs.declared.duty.SemWake.{SemWake}
 use Rattle.rwsem_wake.specs.SemDuties.{drowsing, first_writes, setting, times}
 use Rattle.rwsem_wake.specs.SemParts.{SemPart, alone_of, busy_weight, transit_of, transit_weight}
 use Rattle.rwsem_wake.specs.Duties.{WakeGoes, is_left, paid}
 use Rattle.rwsem_count.specs.Counts.{shared_weight}
 use Rattle.lock_core.specs.Views.{alone_weight}
-use Rattle.rwsem_wake.specs.declared.view.SemHand.{SemHand}
 use Rattle.rwsem_wake.specs.GrantsStated.{Picks}
 use Rattle.rwsem_slow.specs.WakesGo.{HearsBy, LeavesNothing, MustOwe, OwesBy, PaysBy, QueuesBy, SetsBy, SetsTask, TiresBy, WakeStands, WakesGo, awake_bit, wake_stands}
 use Rattle.rwsem_wake.specs.RwSemViews.{leaves_wake, chooses_task, looked, looks_at}
 use Rattle.rwsem_slow.specs.RwSems.{has_waiters, owes_after}
+use Rattle.rwsem_slow.specs.Types.{Held, No, Shared, Alone, Waiter, Change, Stay, Enter, Leave, WaitState, Absent, Awake, Tried, SemWake, SemHand}
 
 -- nobody enters by a step that leaves the list, or by which a task leaves it
 pub stay-enters : {P : Type 0} (w : Waiter) → Stay ≡ Enter w → P

@@ -1,7 +1,5 @@
 //! The calls that take a semaphore shared.
 ghost use Rattle.std.specs.Prelude.{◌≡◌, true, false, Ok, IfErr, IfOk, IsSome};
-ghost use Rattle.lock_core.specs.declared.how.How.TheVariants.{Fast};
-ghost use Rattle.lock_core.specs.declared.view.Held.TheVariants.{No};
 ghost use Rattle.lock_core.specs.Kinds.{semaphore};
 ghost use Rattle.lock_core.specs.Locking.{Got, Interrupts, KeepsPlace, TalliesLock};
 ghost use Rattle.sleep_lock.specs.Leaving.{LeavesForCpu};
@@ -10,6 +8,7 @@ ghost use Rattle.rwsem_slow.specs.RwSemHandles.{shown_of, dozes_in, hand_in, Sit
 ghost use Rattle.cpu_task.specs.CpuCounting.{Dozes};
 ghost use Rattle.rwsem_slow.specs.SleepCounting.{CountsReading, SleepsBetween};
 ghost use Rattle.rwsem_slow.specs.RwSemOpening.{EntersOpen};
+ghost use Rattle.rwsem_slow.specs.Types.{Fast, No};
 
 use super::{RwPass, RwSem};
 use crate::reader::read_slowly;

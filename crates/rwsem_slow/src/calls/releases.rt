@@ -1,10 +1,10 @@
 //! The releases of a semaphore, and downgrades.
 ghost use Rattle.std.specs.Prelude.{◌≡◌, false};
-ghost use Rattle.lock_core.specs.declared.view.Held.TheVariants.{No, Shared, Alone};
 ghost use Rattle.lock_core.specs.Kinds.{semaphore, wakes_alone, wakes_down, wakes_shared};
 ghost use Rattle.lock_core.specs.Locking.{Downgrades, Releases};
 ghost use Rattle.rwsem_slow.specs.RwSemHandles.{shown_of, dozes_in, hand_in, wakes_in, SitsAt, SpunGoesOn, StepsOn};
 ghost use Rattle.rwsem_slow.specs.Releasing.{LeavesCount};
+ghost use Rattle.rwsem_slow.specs.Types.{No, Shared, Alone};
 ghost use Rattle.rwsem_slow.specs.Waking.{WakesIf};
 
 use super::{RwPass, RwSem};

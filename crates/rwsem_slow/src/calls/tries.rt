@@ -1,7 +1,5 @@
 //! The tries of a semaphore.
 ghost use Rattle.std.specs.Prelude.{◌≡◌, ◌+◌, true, false, IsSome, IfOk, IfErr};
-ghost use Rattle.lock_core.specs.declared.how.How.TheVariants.{Fast};
-ghost use Rattle.lock_core.specs.declared.view.Held.TheVariants.{No};
 ghost use Rattle.lock_core.specs.Kinds.{semaphore};
 ghost use Rattle.lock_core.specs.Locking.{Got, Misses};
 ghost use Rattle.lock_core.specs.Pasts.{FoundAt};
@@ -9,6 +7,7 @@ ghost use Rattle.rwsem_count.specs.CountTries.{FindsFree};
 ghost use Rattle.rwsem_count.specs.CountWordSteps.{IsReadFree};
 ghost use Rattle.rwsem_wake.specs.RwSemViews.{count_at};
 ghost use Rattle.rwsem_slow.specs.RwSemHandles.{shown_of, hand_in, KeepsWakes, SitsAt, SpunGoesOn, TakesAlone, TakesShared, StepsOn};
+ghost use Rattle.rwsem_slow.specs.Types.{Fast, No};
 
 use super::{RwPass, RwSem};
 use rwsem_count::{steps, tries};

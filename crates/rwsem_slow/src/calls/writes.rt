@@ -1,7 +1,5 @@
 //! The calls that take a semaphore alone.
 ghost use Rattle.std.specs.Prelude.{◌≡◌, ◌≤◌, ◌+◌, Bool, true, false, Ok, IfErr, IfOk, IsSome};
-ghost use Rattle.lock_core.specs.declared.how.How.TheVariants.{Spun};
-ghost use Rattle.lock_core.specs.declared.view.Held.TheVariants.{No};
 ghost use Rattle.lock_core.specs.Kinds.{semaphore};
 ghost use Rattle.lock_core.specs.Locking.{Got, Interrupts, KeepsPlace, OnlyTried, TalliesLock, TalliesSpin};
 ghost use Rattle.sleep_lock.specs.Leaving.{LeavesForCpu};
@@ -11,6 +9,7 @@ ghost use Rattle.cpu_task.specs.CpuCounting.{Dozes};
 ghost use Rattle.rwsem_slow.specs.SleepCounting.{CountsLeaving, CountsWriting};
 ghost use Rattle.rwsem_slow.specs.RwSemOpening.{TakesOpen};
 ghost use Rattle.rwsem_slow.specs.Spinning.{SawIfTried};
+ghost use Rattle.rwsem_slow.specs.Types.{Spun, No};
 
 use super::{RwPass, RwSem};
 use crate::writer::{spin, write_in_line};

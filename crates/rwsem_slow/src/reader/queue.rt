@@ -1,14 +1,13 @@
 //! How a reader queues.
 ghost use Rattle.std.specs.Prelude.{◌≡◌, ◌+◌, [], true, false, IfSome, IfNone, IsSome};
-ghost use Rattle.lock_core.specs.declared.view.Held.TheVariants.{No};
 ghost use Rattle.lock_core.specs.SiteHandles.{plan_of, view_of, task_in, held_in, SitsAt, KeepsPast, SaysSame, MovesOn};
 ghost use Rattle.lock_core.specs.Records.{bit};
 ghost use Rattle.lock_core.specs.Views.{SpinHolds};
-ghost use Rattle.rwsem_wake.specs.declared.view.Wait.TheVariants.{Reads};
 ghost use Rattle.rwsem_wake.specs.SemParts.{some_of};
 ghost use Rattle.rwsem_wake.specs.Duties.{left_by};
 ghost use Rattle.rwsem_wake.specs.Grants.{AreTaskNumbers};
 ghost use Rattle.rwsem_slow.specs.Queued.{Becomes, IsInTransit, IsInLineToWake, LooksAt, Shares, comes, waiting};
+ghost use Rattle.rwsem_slow.specs.Types.{No, Reads};
 ghost use Rattle.rwsem_wake.specs.Removals.{KnowsList};
 ghost use Rattle.rwsem_wake.specs.RwSemPlaces.{dozes_of, seen_of};
 ghost use Rattle.rwsem_wake.specs.RwSemWakes.{woken_tasks};

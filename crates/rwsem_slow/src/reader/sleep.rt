@@ -1,9 +1,7 @@
 //! How a queued reader sleeps, and hears that it is granted.
 ghost use Rattle.std.specs.Prelude.{◌≡◌, ◌≤◌, ◌+◌, true, false, IsSome, IfErr, IfOk};
-ghost use Rattle.lock_core.specs.declared.view.Held.TheVariants.{No, Shared};
 ghost use Rattle.lock_core.specs.SiteHandles.{plan_of, view_of, task_in, held_in, SitsAt, KeepsPast, SaysSame, hand_in, MovesOn};
 ghost use Rattle.lock_core.specs.Views.{SpinHolds, SpinRests};
-ghost use Rattle.rwsem_wake.specs.declared.view.Wait.TheVariants.{Reads};
 ghost use Rattle.wake_duty.specs.WakeSteps.{HasTried};
 ghost use Rattle.rwsem_slow.specs.RwSems.{wait_state_of};
 ghost use Rattle.rwsem_slow.specs.Queued.{IsInLine, Shares, Tries, KeepsLine};
@@ -12,6 +10,7 @@ ghost use Rattle.lock_core.specs.Locking.{SawPending, Takes};
 ghost use Rattle.lock_core.specs.Signals.{HasHeard, OnlyConsumed};
 ghost use Rattle.cpu_task.specs.CpuCounting.{Dozes};
 ghost use Rattle.rwsem_slow.specs.SleepCounting.{SleepsBetween};
+ghost use Rattle.rwsem_slow.specs.Types.{No, Shared, Reads};
 ghost use Rattle.rwsem_wake.specs.RwSemPlaces.{AreCounts, IsOutside, dozes_of, seen_of};
 
 use crate::SemRule;

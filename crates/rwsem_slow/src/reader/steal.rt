@@ -1,7 +1,6 @@
 //! A reader that comes to hold by the bias that its first addition left in the count, though tasks
 //! wait.
 ghost use Rattle.std.specs.Prelude.{◌≡◌, ◌↔◌, ◌+◌, true, false, IsSome, IsTrue};
-ghost use Rattle.lock_core.specs.declared.view.Held.TheVariants.{No, Shared};
 ghost use Rattle.lock_core.specs.SiteHandles.{plan_of, view_of, task_in, held_in, SitsAt, KeepsPast, SaysSame, MovesOn};
 ghost use Rattle.lock_core.specs.Kinds.{lets_in, semaphore};
 ghost use Rattle.lock_core.specs.Shown.{LeavesHold};
@@ -9,6 +8,7 @@ ghost use Rattle.lock_core.specs.Views.{SpinRests, ticked};
 ghost use Rattle.rwsem_wake.specs.RwSemPlaces.{AreCounts, IsOutside, dozes_of, seen_of};
 ghost use Rattle.rwsem_slow.specs.Queued.{IsInTransit, KeepsLine, Shares};
 ghost use Rattle.rwsem_slow.specs.Stealing.{IsShared, MaySteal, StealsBy, left_by};
+ghost use Rattle.rwsem_slow.specs.Types.{No, Shared};
 ghost use Rattle.rwsem_slow.specs.Waking.{IsFirstBias, WakesWaiting};
 ghost use Rattle.rwsem_wake.specs.RwSemWakes.{MayWake};
 

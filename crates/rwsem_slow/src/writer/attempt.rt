@@ -1,14 +1,10 @@
 //! The tries of a queued writer, under the wait lock.
 ghost use Rattle.std.specs.Prelude.{◌≡◌, ◌≢◌, ◌↔◌, ◌<◌, ◌≤◌, ◌+◌, ℕ, true, false, IsSome, IsTrue, Some, length};
 ghost use Rattle.word_bits.specs.LockWords.{IsLawfulCount};
-ghost use Rattle.lock_core.specs.declared.how.How.TheVariants.{Slept};
-ghost use Rattle.lock_core.specs.declared.view.Held.TheVariants.{No};
 ghost use Rattle.lock_core.specs.SiteHandles.{plan_of, view_of, task_in, held_in, SitsAt, KeepsPast, SaysSame, MovesOn};
 ghost use Rattle.lock_core.specs.Views.{SpinHolds};
-ghost use Rattle.rwsem_wake.specs.declared.view.Wait.TheVariants.{Writes};
 ghost use Rattle.wait_list.specs.Lists.{first_code, first_of};
 ghost use Rattle.rwsem_count.specs.CountWordSteps.{HasHandoff, IsLocked};
-ghost use Rattle.rwsem_wake.specs.declared.view.Stage.TheVariants.{Took};
 ghost use Rattle.rwsem_wake.specs.GrantQueues.{MayTake};
 ghost use Rattle.rwsem_wake.specs.RwSemViews.{list_of, sem_of};
 ghost use Rattle.rwsem_slow.specs.RwSems.{wait_state_of};
@@ -17,6 +13,7 @@ ghost use Rattle.rwsem_slow.specs.RwSemOpening.{TakesOpen};
 ghost use Rattle.rwsem_wake.specs.RwSemPlaces.{seen_of};
 ghost use Rattle.wake_duty.specs.WakeSteps.{HasTried};
 ghost use Rattle.rwsem_slow.specs.Queued.{Becomes, HasTaken, HasTriedAt, IsInLine, IsListed, IsTrying, KeepsWaiting, KnowsMark, Rests, Stays, TookInLine, Tries, waiting};
+ghost use Rattle.rwsem_slow.specs.Types.{Slept, No, Writes, Took};
 
 use crate::SemRule;
 use cpu_task::Cpu;

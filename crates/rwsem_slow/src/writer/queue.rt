@@ -1,14 +1,12 @@
 //! How a writer queues, and leaves the list once it has taken.
 ghost use Rattle.std.specs.Prelude.{◌≡◌, ◌<◌, ◌+◌, true, false, IsSome, Some};
-ghost use Rattle.lock_core.specs.declared.view.Held.TheVariants.{No};
 ghost use Rattle.lock_core.specs.SiteHandles.{view_of, task_in, held_in, SitsAt, KeepsPast, SaysSame, MovesOn};
 ghost use Rattle.lock_core.specs.Views.{SpinHolds};
-ghost use Rattle.rwsem_wake.specs.declared.view.Wait.TheVariants.{Writes};
-ghost use Rattle.rwsem_wake.specs.declared.view.Stage.TheVariants.{Took};
 ghost use Rattle.rwsem_wake.specs.SemParts.{apart_hand};
 ghost use Rattle.rwsem_wake.specs.RwSemViews.{leaves_wake};
 ghost use Rattle.rwsem_wake.specs.RwSemPlaces.{IsOutside, AreCounts, dozes_of, seen_of};
 ghost use Rattle.rwsem_slow.specs.Queued.{Becomes, IsInLine, comes, waiting};
+ghost use Rattle.rwsem_slow.specs.Types.{No, Writes, Took};
 ghost use Rattle.rwsem_slow.specs.Waking.{FindsItselfFirst, WakesOthers};
 
 use crate::SemRule;

@@ -1,18 +1,16 @@
 //! How a queued writer sleeps between its tries.
 ghost use Rattle.std.specs.Prelude.{◌≡◌, ◌+◌, true, IfErr, IfOk, IfSome, IsSome};
-ghost use Rattle.lock_core.specs.declared.how.How.TheVariants.{Slept};
-ghost use Rattle.lock_core.specs.declared.view.Held.TheVariants.{No, Alone};
 ghost use Rattle.lock_core.specs.SiteHandles.{plan_of, view_of, hand_in, task_in, held_in, SitsAt, MovesOn};
 ghost use Rattle.lock_core.specs.Locking.{SawPending, Takes};
 ghost use Rattle.lock_core.specs.Signals.{HasHeard};
 ghost use Rattle.lock_core.specs.Views.{SpinHolds};
 ghost use Rattle.cpu_task.specs.CpuCounting.{Dozes, DozesOnce, SleepsInTurns};
-ghost use Rattle.rwsem_wake.specs.declared.view.Wait.TheVariants.{Writes};
 ghost use Rattle.wake_duty.specs.WakeSteps.{HasTried};
 ghost use Rattle.rwsem_slow.specs.RwSems.{wait_state_of};
 ghost use Rattle.rwsem_slow.specs.RwSemOpening.{TakesOpen};
 ghost use Rattle.rwsem_wake.specs.RwSemPlaces.{AreCounts, dozes_of, seen_of};
 ghost use Rattle.rwsem_slow.specs.Queued.{IsInLine, IsToQuit, KeepsLine, WaitsOn};
+ghost use Rattle.rwsem_slow.specs.Types.{Slept, No, Alone, Writes};
 
 use super::attempt;
 use crate::SemRule;

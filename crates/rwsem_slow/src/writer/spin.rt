@@ -1,13 +1,10 @@
 //! Tries of a writer that stands in no list, and spins.
 ghost use Rattle.std.specs.Prelude.{◌≡◌, ◌≢◌, ◌↔◌, ◌+◌, ◌≤◌, true, false, IsSome, IsTrue, IfOk, IfErr};
 ghost use Rattle.word_bits.specs.LockWords.{IsLawfulCount};
-ghost use Rattle.lock_core.specs.declared.how.How.TheVariants.{Spun};
-ghost use Rattle.lock_core.specs.declared.view.Held.TheVariants.{No, Alone};
 ghost use Rattle.lock_core.specs.SiteHandles.{plan_of, view_of, past_of, task_in, held_in, SitsAt, StepsAt, SaysSame, MovesOn};
 ghost use Rattle.lock_core.specs.Kinds.{semaphore, unavailable};
 ghost use Rattle.lock_core.specs.Locking.{OnlyTried, Takes};
 ghost use Rattle.lock_core.specs.Pasts.{FoundAt};
-ghost use Rattle.osq_nodes.specs.declared.node.Place.TheVariants.{Head};
 ghost use Rattle.osq_nodes.specs.OsqHandles as spinners;
 ghost use Rattle.rwsem_count.specs.CountTries.{MissesSince, TakesCount, TakesSince};
 ghost use Rattle.rwsem_wake.specs.SemParts.{apart_hand};
@@ -16,6 +13,7 @@ ghost use Rattle.rwsem_wake.specs.RwSemPlaces.{IsOutside, seen_of};
 ghost use Rattle.rwsem_wake.specs.RwSemViews.{count_at};
 ghost use Rattle.rwsem_slow.specs.RwSems.{biased};
 ghost use Rattle.rwsem_slow.specs.Spinning.{IsUnlocked, LookedUnqueued, SawUnqueued, SeesShut, StandsSame, TakenUnqueued};
+ghost use Rattle.rwsem_slow.specs.Types.{Spun, No, Alone, Head};
 
 use crate::SemRule;
 use atomic_table::Play;

@@ -12,15 +12,13 @@ use Rattle.lock_core.specs.Totals.{total, total-set, total-snoc, total-at}
 use Rattle.lock_core.specs.ViewParts.{Each, each-set, each-snoc, set-there}
 use Rattle.lock_core.proofs.HandLaws.{is_number-here}
 use Rattle.lock_core.proofs.RowLaws.{none-some, same-some}
-use Rattle.wait_list.specs.declared.view.Waiter.{Waiter}
 use Rattle.wait_list.specs.Lists.{first_code, without}
 use Rattle.wait_list.proofs.Waiters.{first-without, without-else}
-use Rattle.wake_duty.specs.declared.view.WaitState.{WaitState}
-use Rattle.wake_duty.specs.declared.view.WaitState.TheVariants.{Awake, Tried}
 use Rattle.wake_duty.specs.DutyWakes.{WAKE_WORDS, wake_word, awake, waits, after_failed_try}
 use Rattle.wake_duty.specs.Laws.Wake.{awake-none, awake-else}
 use Rattle.rwsem_wake.specs.SemDuties.{DutyPart, DutyKept, PartOk, IsQuiet, times, where_so, alone_of, late_of, owes, answers, attends, chose, is_awake, wakes_it, first_writes, wakes_first, recounted}
 use Rattle.rwsem_wake.specs.SemDuties.{with_wait_state, entering, leaving, choosing, less, setting, drowsing, with_wake}
+use Rattle.rwsem_wake.specs.Types.{Waiter, WaitState, Awake, Tried}
 
 -- numbers
 

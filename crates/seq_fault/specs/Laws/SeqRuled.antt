@@ -8,9 +8,6 @@ use lib.Seq.{map-set}
 use Rattle.atomic_table.proofs.Lists.{at_map, set_else}
 use Rattle.word_bits.specs.Objects.{Obj}
 use Rattle.word_bits.specs.Histories.{Plan}
-use Rattle.lock_core.specs.declared.view.Hand.{Hand}
-use Rattle.lock_core.specs.declared.view.Held.TheVariants.{No, Shared, Alone}
-use Rattle.lock_core.specs.declared.view.SpinHand.{SpinHand}
 use Rattle.lock_core.specs.declared.layout.TheConstants.{LOCK_WORDS}
 use Rattle.lock_core.specs.Layout.{SiteWords, fresh, site, width}
 use Rattle.lock_core.specs.Views.{hand_of, alone_of, held_weight, alone_weight, seated, ticked, first, split_off, merged, spent, HoldsNothing}
@@ -19,10 +16,9 @@ use Rattle.lock_core.specs.Moves.{Goes, KeepsHold, SiteMoveWhere}
 use Rattle.lock_core.specs.Laws.Move.{set-moves, hold-moved}
 use Rattle.lock_core.specs.ViewParts.{Each, each-set, each-snoc, set_part}
 use Rattle.lock_core.specs.Totals.{total, total-set, total-snoc, total-at}
-use Rattle.seq_fault.specs.declared.view.Watch.{Watch}
-use Rattle.seq_fault.specs.declared.view.Watch.TheVariants.{Off, On}
 use Rattle.seq_fault.specs.Watches.{WatchOk}
 use Rattle.seq_fault.specs.SeqRuled.{V, SeqKept, SeqMoves, SeqStep, never, seq_at}
+use Rattle.seq_fault.specs.Types.{Hand, No, Shared, Alone, SpinHand, Watch, Off, On}
 
 abbrev hands : List V → List Hand
 hands vs = map hand_of vs

@@ -2,23 +2,17 @@
 use Rattle.std.proofs.Common.{◌-◌, ◌≡◌, ◌≢◌, ℕ, ◌+◌, ◌*◌, ◌<◌, ◌≤◌, Bool, true, false, List, [], ◌∷◌, ◌++◌, length, map, get_or, set, sym, refl, ap, ◌∙◌, subst, arith, length-set}
 use mathlib.Core.Option.{some, some-ne-none}
 use lib.ListN.{get_elem?}
-use Rattle.lock_core.specs.declared.view.SpinHand.{SpinHand}
 use Rattle.lock_core.specs.Records.{bit}
 use Rattle.lock_core.specs.Views.{no_spin}
 use Rattle.lock_core.specs.Spins.{SpinFrees, holds_in}
 use Rattle.lock_core.specs.SpinFrames.{holds_at, holds_of}
-use Rattle.lock_core.specs.declared.view.Frame.{Frame}
-use Rattle.lock_core.specs.declared.view.Point.{Point}
-use Rattle.lock_core.specs.declared.view.Point.TheVariants.{Out, Undoing, Pending, Taking, Trying, Clearing, Cleared, Linking, Waiting, Head, Ready, Passing, Holding}
 use Rattle.wait_list.specs.declared.words.TheConstants.{LIST_WORDS}
 use Rattle.lock_core.specs.Totals.{total, total-set, total-same, total-snoc, total-at, total-two}
 use Rattle.lock_core.specs.ViewParts.{Each, each-set, each-snoc}
 use Rattle.lock_core.proofs.HandLaws.{not-both, false-or-true}
-use Rattle.wait_list.specs.declared.view.Waiter.{Waiter}
-use Rattle.wait_list.specs.declared.view.ListHand.{ListHand}
-use Rattle.wait_list.specs.declared.view.Change.{Change}
-use Rattle.wait_list.specs.declared.view.Change.TheVariants.{Stay, Enter, Leave}
 use Rattle.wait_list.specs.Lists.{Allowed, ListMoves, MadeBy, changed, Part, Knows, PartOk, ListKept, Lists, IsList, IsNear, changes_of, takes_of, no_list}
+use Rattle.wait_list.specs.Types.{SpinHand, Frame, Point, Out, Undoing, Pending, Taking, Trying, Clearing, Cleared, Linking, Waiting, Head, Ready, Passing, Holding, Waiter, ListHand}
+use Rattle.wait_list.specs.Types.{Change, Stay, Enter, Leave}
 
 holds-small : (p : Point) → holds_at p ≤ 1
 holds-small Out = omega arith

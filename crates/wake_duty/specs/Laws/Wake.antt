@@ -6,23 +6,17 @@ use mathlib.Core.Logic.{dite}
 use native.Mathlib.Decide.{ℕ_discrete}
 use lib.ListN.{get_elem?}
 use Rattle.word_bits.specs.declared.TheConstants.{MAX_TASKS}
-use Rattle.lock_core.specs.declared.view.Held.TheVariants.{Alone}
 use Rattle.lock_core.specs.Records.{bit}
 use Rattle.lock_core.specs.Views.{held_weight, is_number}
 use Rattle.lock_core.specs.Totals.{total, total-set, total-snoc, total-at}
 use Rattle.lock_core.specs.ViewParts.{each-set, each-snoc, set-there}
 use Rattle.lock_core.proofs.HandLaws.{is_number-here, is_number-else}
 use Rattle.lock_core.proofs.RowLaws.{none-some}
-use Rattle.wait_list.specs.declared.view.Waiter.{Waiter}
 use Rattle.wait_list.specs.Lists.{first_code, without}
 use Rattle.wait_list.proofs.Waiters.{first-without}
-use Rattle.wake_duty.specs.declared.view.Duty.{Duty}
-use Rattle.wake_duty.specs.declared.view.Duty.TheVariants.{NoDuty, Owing, Chosen}
-use Rattle.wake_duty.specs.declared.view.WaitState.{WaitState}
-use Rattle.wake_duty.specs.declared.view.WaitState.TheVariants.{Absent, Awake, Tried}
-use Rattle.wake_duty.specs.declared.view.WakeHand.{WakeHand}
 use Rattle.wake_duty.specs.DutyWakes.{WAKE_WORDS, wake_word, WakePart, owed, chose, chose_any, awake, waits, guards, keeps_awake, debt, IsStuck, IsQuiet, PartOk, WakeKept, duty_of, awakened}
 use Rattle.wake_duty.specs.DutyWakes.{after_failed_try, tried_at, looked_at, owing_at, drowsed_at, failing, looking, drowsing, Sets, Drowses, with_hand}
+use Rattle.wake_duty.specs.Types.{Alone, Waiter, Duty, NoDuty, Owing, Chosen, WaitState, Absent, Awake, Tried, WakeHand}
 
 -- who isn't in the list isn't awake, and has tried nothing
 pub awake-none : (x : WaitState) (t : ℕ) (task : Option ℕ) → waits x ≡ 0 → awake t task x ≡ 0

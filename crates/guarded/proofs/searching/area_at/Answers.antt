@@ -1,9 +1,9 @@
 -- The word at the place is that of the area.
 use Rattle.std.proofs.Common.{◌^◌, ◌<◌, Some, sym, ap, subst, ◌∙◌, arith}
 use Rattle.std.proofs.lemmas.Option.{slice_get-get_or}
-use Rattle.word_bits.specs.declared.area.Area.{Area}
 use Rattle.vma_map.proofs.RangeLemmas.{no_area}
 use Rattle.guarded.specs.Splicing.{area_of, areas_in}
+use Rattle.guarded.specs.Types.{Area}
 use Rattle.guarded.proofs.Spliced.{area-at, area_of-word, area_word-fits}
 use Rattle.guarded.proofs.searching.area_at.Goals as goal
 

@@ -2,9 +2,9 @@
 use Rattle.std.proofs.Common.{◌≡◌, ◌+◌, ◌<◌, ◌≤◌, ℕ, Some, drop, length, take, sym, ap, subst, ◌∙◌, add-one, arith}
 use Rattle.std.specs.List.{AllByRecursion, slice_get}
 use Rattle.std.proofs.lemmas.Option.{get_or_from_slice_get, slice_get_within}
-use Rattle.word_bits.specs.declared.area.Area.{Area}
 use Rattle.vma_map.proofs.RangeLemmas.{no_area}
 use Rattle.guarded.specs.Splicing.{areas_in}
+use Rattle.guarded.specs.Types.{Area}
 use Rattle.guarded.proofs.Counting.{ended-by, ending-from}
 use Rattle.guarded.proofs.Passing.{looks-trans}
 use Rattle.guarded.proofs.Written.{same-known}
@@ -26,6 +26,7 @@ loop-middle-preserved-then-area_at-page g c =
       subst (λ (n : ℕ). n ≤ length areas) (sym most) c.loop-middle.invariant.3,
       subst (λ n. AllByRecursion (λ (a : Area). a.end ≤ c.args.page) (take n areas)) (sym least) (subst (λ (n : ℕ). AllByRecursion (λ (a : Area). a.end ≤ c.args.page) (take n areas)) (sym (add-one at)) (ended-by areas at no_area c.args.page c.requires.areas.space.runs below (subst (λ (a : Area). a.end ≤ c.args.page) (sym (get_or_from_slice_get areas at c.area_at.result no_area is)) c.if-area_at-page.true))),
       subst (λ n. AllByRecursion (λ (a : Area). c.args.page < a.end) (drop n areas)) (sym most) c.loop-middle.invariant.5,
+      (λ p t. c.area_at.ensures.queue p (c.loop-middle.invariant.6 p t)),
     )
 
 pub loop-middle-preserved : goal.loop-middle-preserved
@@ -44,4 +45,5 @@ loop-middle-preserved g c =
       omega (arith, most, below),
       subst (λ n. AllByRecursion (λ (a : Area). a.end ≤ c.args.page) (take n areas)) (sym least) c.loop-middle.invariant.4,
       subst (λ n. AllByRecursion (λ (a : Area). c.args.page < a.end) (drop n areas)) (sym most) (ending-from areas at no_area c.args.page c.requires.areas.space.runs below (subst (λ (a : Area). c.args.page < a.end) (sym (get_or_from_slice_get areas at c.area_at.result no_area is)) c.if-area_at-page.false)),
+      (λ p t. c.area_at.ensures.queue p (c.loop-middle.invariant.6 p t)),
     )

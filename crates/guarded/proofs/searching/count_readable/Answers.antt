@@ -3,14 +3,14 @@ use Rattle.std.proofs.Common.{◌≡◌, ◌+◌, ◌<◌, ◌≤◌, ◌⊎◌,
 use Rattle.std.specs.List.{AllByRecursion, slice_get}
 use Rattle.std.proofs.lemmas.List.{take_all}
 use Rattle.std.proofs.lemmas.Option.{get_or_from_slice_get}
-use Rattle.word_bits.specs.declared.area.Area.{Area}
 use Rattle.vma_map.proofs.RangeLemmas.{no_area}
 use Rattle.vma_map.proofs.WordLemmas.{AreRuns-take}
 use Rattle.vma_map.proofs.CountLemmas.{covered-le}
 use Rattle.guarded.specs.CallServing.{share}
 use Rattle.guarded.specs.Splicing.{HaveAreas, areas_in}
+use Rattle.guarded.specs.Types.{Area}
 use Rattle.guarded.proofs.Counting.{shares, shares-more, shares-le, shares-end, shares-ended, shares-front, counted-runs}
-use Rattle.guarded.proofs.Passing.{looks-trans}
+use Rattle.guarded.proofs.Passing.{looks-trans, spun-goes-on}
 use Rattle.guarded.proofs.Spliced.{number-of}
 use Rattle.guarded.proofs.Written.{same-known}
 use Rattle.guarded.proofs.searching.count_readable.Goals as goal
@@ -37,6 +37,7 @@ loop-at-init g c =
       looks-trans v u w c.word-count.ensures.kept c.count_ended_by-at.ensures.kept,
       (λ p t. c.count_ended_by-at.ensures.on.goes_on p (c.word-count.ensures.on.goes_on p t)),
       sym (shares-ended (take n (areas_in v.hand.known)) c.args.start end ended),
+      (λ p t. c.count_ended_by-at.ensures.queue p (spun-goes-on g.L.SleepLock.spun g.L.SiteLock.with_seat g.met.L.SleepLock.leaves c.args.pass.now c.word-count.new.pass _ c.word-count.ensures.beside p t)),
     )
 
 pub area_at-area-requires-clause-inside : goal.area_at-area-requires-clause-inside
@@ -83,6 +84,7 @@ loop-at-preserved g c =
       looks-trans v u w c.loop-at.invariant.1 c.area_at-area.ensures.kept,
       (λ p t. c.area_at-area.ensures.on.goes_on p (c.loop-at.invariant.2 p t)),
       omega (arith, more, now, part),
+      (λ p t. c.area_at-area.ensures.queue p (c.loop-at.invariant.4 p t)),
     )
 
 pub returns-clause-pages : goal.returns-clause-pages

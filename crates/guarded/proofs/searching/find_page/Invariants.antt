@@ -1,5 +1,6 @@
 -- All words that were given are the pass's.
 use Rattle.std.proofs.Common.{◌≡◌, ◌-◌}
+use Rattle.lock_core.specs.Pasts.{GoesOn}
 use Rattle.lock_core.specs.Shown.{PastGoesOn}
 use Rattle.lock_core.specs.Locking.{Looks}
 use Rattle.vma_map.specs.Searches.{AgreesWith, asked, page_of}
@@ -12,6 +13,7 @@ invariant-loop-at g l =
     × PastGoesOn (g.L.SiteLock.view l.fn.pass) (g.L.SiteLock.view l.pass)
     × (page_of l.search ≡ l.page)
     × AgreesWith (g.L.SiteLock.view l.fn.pass).hand.known l.search
+    × GoesOn (g.L.SleepLock.spun l.fn.pass) (g.L.SleepLock.spun l.pass)
 
 abbrev pub decreases-loop-at : goal.decreases-loop-at
 decreases-loop-at g l = 10 - asked l.search

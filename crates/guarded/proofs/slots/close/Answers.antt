@@ -1,8 +1,7 @@
 use Rattle.std.proofs.Common.{◌-◌, None, refl}
-use Rattle.word_bits.specs.declared.reply.Reply.TheVariants.{Good, Refused}
-use Rattle.word_bits.specs.declared.reply.Errno.TheVariants.{BadF}
-use Rattle.fd_table.specs.declared.call.TableCall.TheVariants.{Close}
+use Rattle.guarded.specs.Types.{Good, Refused, BadF, Close}
 use Rattle.guarded.proofs.Descriptors.{slot-none, slot-some, slot-inside, does-nothing, does-write, closed-none, closed-some}
+use Rattle.guarded.proofs.Passing.{spun-goes-on}
 use Rattle.guarded.proofs.slots.close.Goals as goal
 
 pub returns-then-slot-eq0-clause-done : goal.returns-then-slot-eq0-clause-done
@@ -25,3 +24,6 @@ returns-clause-done g c = λ m is same.
     let fd = c.args.fd in
     let value = c.slot.ensures.value m is same in
     does-write m v r u c.slot.ensures.kept is same (Close fd) Good fd 0 None (slot-inside m fd c.slot.result is value c.if-slot-eq0.false) refl c.set_word.ensures.kept (closed-some m fd (c.slot.result - 1) (slot-some (m fd) c.slot.result value c.if-slot-eq0.false))
+
+pub returns-clause-queue : goal.returns-clause-queue
+returns-clause-queue g c = λ p t. spun-goes-on g.L.SleepLock.spun g.L.SiteLock.with_seat g.met.L.SleepLock.leaves c.slot.new.pass c.set_word.new.pass _ c.set_word.ensures.beside p (c.slot.ensures.queue p t)

@@ -1,8 +1,5 @@
 use Rattle.std.proofs.Common.{◌-◌, sym, ap, ◌∙◌}
-use Rattle.word_bits.specs.declared.reply.Reply.TheVariants.{Refused}
-use Rattle.word_bits.specs.declared.reply.Errno.TheVariants.{BadF}
-use Rattle.lock_core.specs.declared.view.Hand.{Hand}
-use Rattle.fd_table.specs.declared.call.TableCall.TheVariants.{Dup}
+use Rattle.guarded.specs.Types.{Refused, BadF, Hand, Dup}
 use Rattle.guarded.proofs.Descriptors.{slot-none, slot-some, does-nothing, dupped-none, dupped-then}
 use Rattle.guarded.proofs.slots.dup.Goals as goal
 

@@ -1,5 +1,6 @@
 -- Each descriptor so far is open.
 use Rattle.std.proofs.Common.{◌≡◌, ◌<◌, ℕ, IsSome}
+use Rattle.lock_core.specs.Pasts.{GoesOn}
 use Rattle.lock_core.specs.Shown.{PastGoesOn}
 use Rattle.lock_core.specs.Locking.{Looks}
 use Rattle.fd_table.specs.Tables.{FdMap, IsFdMap, stores}
@@ -11,3 +12,4 @@ invariant-loop-fd g l =
     × Looks (g.L.SiteLock.view l.fn.pass) (g.L.SiteLock.view l.pass)
     × PastGoesOn (g.L.SiteLock.view l.fn.pass) (g.L.SiteLock.view l.pass)
     × ((m : FdMap) → IsFdMap m → stores m ≡ (g.L.SiteLock.view l.fn.pass).hand.known → (k : ℕ) → k < l.fd → IsSome (m k))
+    × GoesOn (g.L.SleepLock.spun l.fn.pass) (g.L.SleepLock.spun l.pass)

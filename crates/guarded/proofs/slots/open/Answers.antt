@@ -1,8 +1,7 @@
 use Rattle.std.proofs.Common.{◌+◌, ℕ, Some, ap}
-use Rattle.word_bits.specs.declared.reply.Reply.TheVariants.{Num, Refused}
-use Rattle.word_bits.specs.declared.reply.Errno.TheVariants.{MFile}
-use Rattle.fd_table.specs.declared.call.TableCall.TheVariants.{Open}
+use Rattle.guarded.specs.Types.{Num, Refused, MFile, Open}
 use Rattle.guarded.proofs.Descriptors.{lowest-within, does-nothing, does-write, opened-none, opened-some}
+use Rattle.guarded.proofs.Passing.{spun-goes-on}
 use Rattle.guarded.proofs.slots.open.Goals as goal
 
 pub returns-in-None-clause-done : goal.returns-in-None-clause-done
@@ -24,3 +23,6 @@ returns-in-Some-clause-done g c = λ m is same.
     let fd = c.in-Some.fd in
     let found = c.in-Some.ensures.value m is same in
     does-write m v r u c.lowest_free.ensures.kept is same (Open c.args.file) (Num fd) fd (c.from.result + 1) (Some c.args.file) (lowest-within m fd found) (ap (λ (n : ℕ). n + 1) c.from.ensures) c.set_word.ensures.kept (opened-some m c.args.file fd found)
+
+pub returns-in-Some-clause-queue : goal.returns-in-Some-clause-queue
+returns-in-Some-clause-queue g c = λ p t. spun-goes-on g.L.SleepLock.spun g.L.SiteLock.with_seat g.met.L.SleepLock.leaves c.lowest_free.new.pass c.set_word.new.pass _ c.set_word.ensures.beside p (c.lowest_free.ensures.queue p t)

@@ -1,7 +1,8 @@
 -- Nothing up to the place has been written, so what is moved is what was there at first.
 use Rattle.std.proofs.Common.{◌≡◌, ◌+◌, ◌-◌, ◌<◌, length, slice_index, slice_set, refl, sym, ap, ◌∙◌, arith}
-use Rattle.lock_core.specs.declared.view.Hand.{Hand}
 use Rattle.guarded.specs.Laws.Splicing.{changes-none, changes-more}
+use Rattle.guarded.specs.Types.{Hand}
+use Rattle.guarded.proofs.Passing.{spun-goes-on}
 use Rattle.guarded.proofs.Spliced.{set-long}
 use Rattle.guarded.proofs.Written.{looked, wrote-word, still-alone, same-known, roomed-more, others-same, roomed-none, roomed-all}
 use Rattle.guarded.proofs.splicing.make_room.Goals as goal
@@ -13,7 +14,7 @@ pub returns-then-more-eq0-clause-moved : goal.returns-then-more-eq0-clause-moved
 returns-then-more-eq0-clause-moved g c = roomed-none (g.L.SiteLock.view c.args.pass.now).hand.known c.args.at c.args.more c.if-more-eq0.true
 
 pub loop-place-init : goal.loop-place-init
-loop-place-init g c = (c.requires.own, changes-none (g.L.SiteLock.view c.args.pass.now), refl, c.requires.within, omega arith, (λ i l. refl), (λ i l. c.requires.zeros i (omega (arith, l)) ∙ sym (c.requires.zeros (i - c.args.more) (omega (arith, l)))))
+loop-place-init g c = (c.requires.own, changes-none (g.L.SiteLock.view c.args.pass.now), refl, c.requires.within, omega arith, (λ i l. refl), (λ i l. c.requires.zeros i (omega (arith, l)) ∙ sym (c.requires.zeros (i - c.args.more) (omega (arith, l)))), (λ p t. t))
 
 pub word-word-requires-clause-held : goal.word-word-requires-clause-held
 word-word-requires-clause-held g c = λ e. let alone = still-alone (g.L.SiteLock.view c.args.pass.now) (g.L.SiteLock.view c.loop-place.pass) c.loop-place.invariant.1 c.requires.held in absurd cc
@@ -46,6 +47,7 @@ loop-place-preserved g c =
       omega (arith, upper),
       (λ i l. others-same v.hand.known u.hand.known w.hand.known (place + more) i word is (λ e. omega (arith, e, l, some)) (c.loop-place.invariant.5 i (omega (arith, l)))),
       roomed-more v.hand.known u.hand.known w.hand.known more place word below (omega (arith, some)) is found c.loop-place.invariant.6,
+      (λ p t. spun-goes-on g.L.SleepLock.spun g.L.SiteLock.with_seat g.met.L.SleepLock.leaves c.word-word.new.pass c.set_word.new.pass _ c.set_word.ensures.beside p (spun-goes-on g.L.SleepLock.spun g.L.SiteLock.with_seat g.met.L.SleepLock.leaves c.loop-place.pass c.word-word.new.pass _ c.word-word.ensures.beside p (c.loop-place.invariant.7 p t))),
     )
 
 pub returns-clause-moved : goal.returns-clause-moved

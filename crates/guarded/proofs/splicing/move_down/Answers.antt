@@ -1,13 +1,14 @@
 -- Nothing from the place on has been written, so what is moved is what was there at first.
 use Rattle.std.proofs.Common.{◌≡◌, ◌+◌, ◌-◌, ◌<◌, length, slice_index, slice_set, refl, ap, ◌∙◌, arith}
-use Rattle.lock_core.specs.declared.view.Hand.{Hand}
 use Rattle.guarded.specs.Laws.Splicing.{changes-none, changes-more}
+use Rattle.guarded.specs.Types.{Hand}
+use Rattle.guarded.proofs.Passing.{spun-goes-on}
 use Rattle.guarded.proofs.Spliced.{set-long}
 use Rattle.guarded.proofs.Written.{looked, wrote-word, still-alone, same-known, closed-more, others-same, moved-down}
 use Rattle.guarded.proofs.splicing.move_down.Goals as goal
 
 pub loop-place-init : goal.loop-place-init
-loop-place-init g c = let within = c.requires.within in (c.requires.own, changes-none (g.L.SiteLock.view c.args.pass.now), refl, omega arith, omega (arith, within), (λ i l. refl), (λ i a b. absurd (omega (arith, a, b))), (λ i l. refl))
+loop-place-init g c = let within = c.requires.within in (c.requires.own, changes-none (g.L.SiteLock.view c.args.pass.now), refl, omega arith, omega (arith, within), (λ i l. refl), (λ i a b. absurd (omega (arith, a, b))), (λ i l. refl), (λ p t. t))
 
 pub word-word-requires-clause-held : goal.word-word-requires-clause-held
 word-word-requires-clause-held g c = λ e. let alone = still-alone (g.L.SiteLock.view c.args.pass.now) (g.L.SiteLock.view c.loop-place.pass) c.loop-place.invariant.1 c.requires.held in absurd cc
@@ -40,6 +41,7 @@ loop-place-preserved g c =
       (λ i l. others-same v.hand.known u.hand.known w.hand.known place i word is (λ e. omega (arith, e, l, from)) (c.loop-place.invariant.5 i l)),
       closed-more v.hand.known u.hand.known w.hand.known c.args.at c.args.fewer place word below from is found c.loop-place.invariant.6,
       (λ i l. others-same v.hand.known u.hand.known w.hand.known place i word is (λ e. omega (arith, e, l)) (c.loop-place.invariant.7 i (omega (arith, l)))),
+      (λ p t. spun-goes-on g.L.SleepLock.spun g.L.SiteLock.with_seat g.met.L.SleepLock.leaves c.word-word.new.pass c.set_word.new.pass _ c.set_word.ensures.beside p (spun-goes-on g.L.SleepLock.spun g.L.SiteLock.with_seat g.met.L.SleepLock.leaves c.loop-place.pass c.word-word.new.pass _ c.word-word.ensures.beside p (c.loop-place.invariant.8 p t))),
     )
 
 pub returns-clause-moved : goal.returns-clause-moved

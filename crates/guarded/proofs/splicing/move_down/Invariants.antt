@@ -1,5 +1,6 @@
 -- The words in front of the place are moved, and those from it on are as before.
 use Rattle.std.proofs.Common.{◌≡◌, ℕ, ◌+◌, ◌-◌, ◌<◌, ◌≤◌, length, slice_index}
+use Rattle.lock_core.specs.Pasts.{GoesOn}
 use Rattle.guarded.specs.Splicing.{ChangesWords}
 use Rattle.guarded.proofs.splicing.move_down.Given as goal
 
@@ -13,3 +14,4 @@ invariant-loop-place g l =
     × ((i : ℕ) → i ≤ l.at → slice_index (g.L.SiteLock.view l.pass).hand.known i ≡ slice_index (g.L.SiteLock.view l.fn.pass).hand.known i)
     × ((i : ℕ) → l.at < i → i < l.place → slice_index (g.L.SiteLock.view l.pass).hand.known i ≡ slice_index (g.L.SiteLock.view l.fn.pass).hand.known (i + l.fewer))
     × ((i : ℕ) → l.place ≤ i → slice_index (g.L.SiteLock.view l.pass).hand.known i ≡ slice_index (g.L.SiteLock.view l.fn.pass).hand.known i)
+    × GoesOn (g.L.SleepLock.spun l.fn.pass) (g.L.SleepLock.spun l.pass)

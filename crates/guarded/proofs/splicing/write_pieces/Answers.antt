@@ -2,15 +2,16 @@
 use Rattle.std.proofs.Common.{◌≡◌, ◌+◌, ◌<◌, length, map, slice_index, slice_set, refl, sym, ap, ◌∙◌, arith}
 use Rattle.std.proofs.lemmas.List.{length-map, get_or-map}
 use Rattle.word_bits.specs.AreaWord.{area_word}
-use Rattle.lock_core.specs.declared.view.Hand.{Hand}
 use Rattle.vma_map.proofs.RangeLemmas.{no_area, AreRuns-at}
 use Rattle.guarded.specs.Laws.Splicing.{changes-none, changes-more}
+use Rattle.guarded.specs.Types.{Hand}
+use Rattle.guarded.proofs.Passing.{spun-goes-on}
 use Rattle.guarded.proofs.Spliced.{set-long}
 use Rattle.guarded.proofs.Written.{wrote-word, still-alone, pieced-more, others-same, pieced-all}
 use Rattle.guarded.proofs.splicing.write_pieces.Goals as goal
 
 pub loop-i-init : goal.loop-i-init
-loop-i-init g c = (c.requires.own, changes-none (g.L.SiteLock.view c.args.pass.now), refl, (λ i l. refl), (λ i l. absurd (omega (arith, l))), omega arith, (λ i l. refl))
+loop-i-init g c = (c.requires.own, changes-none (g.L.SiteLock.view c.args.pass.now), refl, (λ i l. refl), (λ i l. absurd (omega (arith, l))), omega arith, (λ i l. refl), (λ p t. t))
 
 pub pack-requires : goal.pack-requires
 pack-requires g c = AreRuns-at c.args.pieces.now c.loop-i.i no_area c.loop-i-test.true c.requires.runs
@@ -40,6 +41,7 @@ loop-i-preserved g c =
       pieced-more (map area_word c.args.pieces.now) u.hand.known w.hand.known at n word below is found c.loop-i.invariant.4,
       omega (arith, inside),
       (λ i l. others-same v.hand.known u.hand.known w.hand.known (at + n + 1) i word is (λ e. omega (arith, e, l)) (c.loop-i.invariant.6 i (omega (arith, l)))),
+      (λ p t. spun-goes-on g.L.SleepLock.spun g.L.SiteLock.with_seat g.met.L.SleepLock.leaves c.loop-i.pass c.set_word.new.pass _ c.set_word.ensures.beside p (c.loop-i.invariant.7 p t)),
     )
 
 pub returns-clause-written : goal.returns-clause-written

@@ -1,12 +1,13 @@
 use Rattle.std.proofs.Common.{◌≡◌, ◌<◌, length, slice_set, refl, ap, ◌∙◌, arith}
-use Rattle.lock_core.specs.declared.view.Hand.{Hand}
 use Rattle.guarded.specs.Laws.Splicing.{changes-none, changes-more}
+use Rattle.guarded.specs.Types.{Hand}
+use Rattle.guarded.proofs.Passing.{spun-goes-on}
 use Rattle.guarded.proofs.Spliced.{set-long}
 use Rattle.guarded.proofs.Written.{wrote-word, still-alone, others-same, cleared-more, cleared-all}
 use Rattle.guarded.proofs.splicing.write_zeros.Goals as goal
 
 pub loop-place-init : goal.loop-place-init
-loop-place-init g c = let within = c.requires.within in (c.requires.own, changes-none (g.L.SiteLock.view c.args.pass.now), refl, omega arith, omega (arith, within), (λ i l. refl), (λ i a b. absurd (omega (arith, a, b))), (λ i l. refl))
+loop-place-init g c = let within = c.requires.within in (c.requires.own, changes-none (g.L.SiteLock.view c.args.pass.now), refl, omega arith, omega (arith, within), (λ i l. refl), (λ i a b. absurd (omega (arith, a, b))), (λ i l. refl), (λ p t. t))
 
 pub set_word-requires-clause-held : goal.set_word-requires-clause-held
 set_word-requires-clause-held g c = still-alone (g.L.SiteLock.view c.args.pass.now) (g.L.SiteLock.view c.loop-place.pass) c.loop-place.invariant.1 c.requires.held
@@ -32,6 +33,7 @@ loop-place-preserved g c =
       (λ i l. others-same v.hand.known u.hand.known w.hand.known place i 0 is (λ e. omega (arith, e, l, from)) (c.loop-place.invariant.5 i l)),
       cleared-more u.hand.known w.hand.known c.args.at place below is c.loop-place.invariant.6,
       (λ i l. others-same v.hand.known u.hand.known w.hand.known place i 0 is (λ e. omega (arith, e, l)) (c.loop-place.invariant.7 i (omega (arith, l)))),
+      (λ p t. spun-goes-on g.L.SleepLock.spun g.L.SiteLock.with_seat g.met.L.SleepLock.leaves c.loop-place.pass c.set_word.new.pass _ c.set_word.ensures.beside p (c.loop-place.invariant.8 p t)),
     )
 
 pub returns-clause-zeros : goal.returns-clause-zeros

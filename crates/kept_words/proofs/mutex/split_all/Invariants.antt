@@ -1,8 +1,8 @@
 use Rattle.std.proofs.Common.{◌≡◌, ◌+◌, vec_len}
 use Rattle.std.specs.Arc.{arc_value}
-use Rattle.lock_core.specs.declared.view.Held.TheVariants.{No}
 use Rattle.mutex_slow.specs.MutexHandles.{hand_in, plan_of, shown_of, SitsAt}
 use Rattle.kept_words.specs.Keeping.{IsTask}
+use Rattle.kept_words.specs.Types.{No}
 use Rattle.kept_words.proofs.mutex.split_all.Given as goal
 
 abbrev pub invariant-loop-cpu : goal.invariant-loop-cpu

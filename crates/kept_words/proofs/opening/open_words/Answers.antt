@@ -1,5 +1,5 @@
 use Rattle.std.proofs.Common.{◌∙◌, ap, length, arith}
-use Rattle.lock_core.specs.declared.view.Hand.{Hand}
+use Rattle.kept_words.specs.Types.{Hand}
 use Rattle.kept_words.proofs.opening.open_words.Goals as goal
 
 pub begin-requires-clause-there : goal.begin-requires-clause-there

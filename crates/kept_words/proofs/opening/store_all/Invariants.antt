@@ -1,6 +1,6 @@
 use Rattle.std.proofs.Common.{◌≡◌, length, take}
-use Rattle.lock_core.specs.declared.view.Held.TheVariants.{Alone}
 use Rattle.kept_words.specs.Keeping.{OnlyWrites}
+use Rattle.kept_words.specs.Types.{Alone}
 use Rattle.kept_words.proofs.opening.store_all.Given as goal
 
 abbrev pub invariant-loop-at : goal.invariant-loop-at

@@ -1,8 +1,8 @@
 use Rattle.std.proofs.Common.{◌≡◌, ◌+◌, vec_len}
 use Rattle.std.specs.Arc.{arc_value}
-use Rattle.lock_core.specs.declared.view.Held.TheVariants.{No}
 use Rattle.rwsem_slow.specs.RwSemHandles.{hand_in, plan_of, shown_of, SitsAt}
 use Rattle.kept_words.specs.Keeping.{IsTask}
+use Rattle.kept_words.specs.Types.{No}
 use Rattle.kept_words.proofs.rwsem.split_all.Given as goal
 
 abbrev pub invariant-loop-cpu : goal.invariant-loop-cpu

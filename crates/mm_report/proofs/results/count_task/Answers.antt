@@ -3,8 +3,8 @@ use Rattle.std.proofs.Common.{◌≡◌, ◌+◌, ◌<◌, ◌∙◌, List, leng
 use Rattle.std.proofs.lemmas.Grind.{common_steps}
 use Rattle.std.proofs.lemmas.List.{length-set, take_all}
 use Rattle.std.proofs.lemmas.Option.{same_Some}
-use Rattle.task_script.specs.declared.script.Line.{Line}
 use Rattle.mm_report.specs.Results.{AddsCalls}
+use Rattle.mm_report.specs.Types.{Line}
 use Rattle.mm_report.proofs.Tallies.{one_more_call}
 use Rattle.mm_report.proofs.results.count_task.Goals as goal
 

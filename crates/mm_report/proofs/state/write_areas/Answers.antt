@@ -2,9 +2,9 @@ use Rattle.std.proofs.Common.{get_or, ap, ◌∙◌, refl}
 use Rattle.byte_streams.specs.Causes.{one_more}
 use Rattle.std.proofs.lemmas.Option.{slice_get-get_or}
 use Rattle.std.proofs.lemmas.Result.{err_from_is_err_and}
-use Rattle.word_bits.specs.declared.area.Area.{Area}
 use Rattle.byte_streams.proofs.Pieces.{pieces_begin, piece_added, piece_failed, pieces_done}
 use Rattle.mm_report.specs.Text.{area_text}
+use Rattle.mm_report.specs.Types.{Area}
 use Rattle.mm_report.proofs.state.write_areas.Goals as goal
 
 pub loop-area-init : goal.loop-area-init

@@ -1,9 +1,9 @@
 use Rattle.std.proofs.Common.{◌≡◌, ◌≤◌, List, map, take}
 use Rattle.std.specs.Prelude.{count_by}
 use Rattle.std.specs.List.{AllByRecursion}
-use Rattle.word_bits.specs.declared.rec.Rec.{Rec}
 use Rattle.word_bits.specs.RecWord.{IsRec, rec_word}
 use Rattle.mm_report.specs.Summary.{is_refused}
+use Rattle.mm_report.specs.Types.{Rec}
 use Rattle.mm_report.proofs.summary.count_refused.Given as goal
 
 abbrev pub invariant-loop-word : goal.invariant-loop-word

@@ -1,10 +1,10 @@
 use Rattle.std.proofs.Common.{◌∙◌, ap, sym, subst}
-use Rattle.lock_core.specs.declared.view.Hand.{Hand}
 use Rattle.lock_core.specs.Kinds.{unavailable}
 use Rattle.lock_core.specs.Shown.{Shown, IsLatestStep}
 use Rattle.lock_core.specs.Views.{gave_up}
 use Rattle.guarded.specs.Gathering.{KeepsDone}
 use Rattle.mm_serve.specs.TaskServing.{IsServing}
+use Rattle.mm_serve.specs.Types.{Hand}
 use Rattle.mm_serve.proofs.Passes.{all-done, now-idle}
 use Rattle.mm_serve.proofs.one_lock.end.Goals as goal
 

@@ -1,6 +1,5 @@
 use Rattle.std.proofs.Common.{◌+◌, List, ap, sym, subst, ◌∙◌}
-use Rattle.lock_core.specs.declared.view.Hand.{Hand}
-use Rattle.lock_core.specs.declared.view.Told.{Told}
+use Rattle.mm_serve.specs.Types.{Hand, Told}
 use Rattle.lock_core.specs.Kinds.{unavailable}
 use Rattle.guarded.specs.ObjectCopying.{HeldAlone}
 use Rattle.guarded.proofs.Gathered.{all-gathered}

@@ -1,5 +1,5 @@
 use Rattle.std.proofs.Common.{◌≡◌, ◌+◌, [], List, ap, sym, ◌∙◌, subst, arith}
-use Rattle.lock_core.specs.declared.view.Hand.{Hand}
+use Rattle.mm_serve.specs.Types.{Hand}
 use Rattle.mm_serve.proofs.Each.{each-at, each-set}
 use Rattle.mm_serve.proofs.Opens.{FilledTo, filled-more, all-filled}
 use Rattle.mm_serve.proofs.opening.split_all.Goals as goal

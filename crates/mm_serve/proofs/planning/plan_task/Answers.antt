@@ -2,7 +2,7 @@ use Rattle.std.proofs.Common.{◌≡◌, ◌∙◌, ◌+◌, ◌<◌, [], ap, ar
 use Rattle.std.proofs.Math.ListN.{length-set}
 use Rattle.word_bits.specs.Histories.{Plan}
 use Rattle.lock_core.specs.Plans.{appended}
-use Rattle.task_script.specs.declared.script.Line.{Line}
+use Rattle.mm_serve.specs.Types.{Line}
 use Rattle.mm_serve.proofs.Filling.{adds-more, still-room, still-task}
 use Rattle.mm_serve.proofs.planning.plan_task.Goals as goal
 

@@ -1,6 +1,6 @@
 use Rattle.std.proofs.Common.{arith, ap, sym, ◌∙◌}
-use Rattle.lock_core.specs.declared.pass.Face.{Face}
 use Rattle.mutex_slow.specs.Mutexes.{V}
+use Rattle.mutex_slow.specs.Types.{Face}
 use Rattle.mutex_slow.proofs.leave.quit.Goals as goal
 
 pub remove-requires-clause-task : goal.remove-requires-clause-task

@@ -1,9 +1,8 @@
 use Rattle.std.proofs.Common.{arith, subst, ap, sym, ◌∙◌, Option, true}
-use Rattle.lock_core.specs.declared.pass.Face.{Face}
 use Rattle.mutex_word.specs.Laws.OwnKinds.{or-one}
-use Rattle.wait_list.specs.declared.view.Waiter.{Waiter}
 use Rattle.wait_list.specs.Lists.{FindsFirst}
 use Rattle.mutex_slow.specs.Mutexes.{V, list_of, with_list}
+use Rattle.mutex_slow.specs.Types.{Face, Waiter}
 use Rattle.mutex_slow.proofs.Queueing.{point-joins, flagged-listed, behind-listed}
 use Rattle.mutex_slow.proofs.queue.join.Goals as goal
 

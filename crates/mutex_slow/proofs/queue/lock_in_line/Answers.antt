@@ -1,8 +1,6 @@
 use Rattle.std.proofs.Common.{arith, ap, ◌∙◌, ◌+◌, ℕ, refl, rules}
-use Rattle.lock_core.specs.declared.view.SpinHand.{SpinHand}
-use Rattle.lock_core.specs.declared.view.Hand.{Hand}
-use Rattle.mutex_slow.specs.declared.view.MutexHand.{MutexHand}
 use Rattle.mutex_slow.specs.MutexPlaces.{dozes_of, seen_of}
+use Rattle.mutex_slow.specs.Types.{SpinHand, Hand, MutexHand}
 use Rattle.lock_core.proofs.Within.{pending-within, sees-within}
 use Rattle.cpu_task.proofs.SleepCounts.{dozes-none, dozes-within}
 use Rattle.mutex_slow.proofs.Opening.{opens-behind, opens-before}

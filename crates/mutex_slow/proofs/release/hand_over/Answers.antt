@@ -1,11 +1,10 @@
 use Rattle.std.proofs.Common.{arith, ap, sym, subst, None, Some, ◌∙◌}
-use Rattle.wait_list.specs.declared.view.ListHand.{ListHand}
 use Rattle.wait_list.specs.Lists.{AreTasks, first_of}
 use Rattle.mutex_slow.proofs.Duties.{handed}
-use Rattle.lock_core.specs.declared.pass.Face.{Face}
 use Rattle.lock_core.specs.SpinFrames.{holds_at}
 use Rattle.lock_core.specs.Spins.{holds_in}
 use Rattle.mutex_slow.specs.Mutexes.{V}
+use Rattle.mutex_slow.specs.Types.{ListHand, Face}
 use Rattle.mutex_slow.proofs.Ending.{names-found}
 use Rattle.mutex_slow.proofs.release.hand_over.Goals as goal
 

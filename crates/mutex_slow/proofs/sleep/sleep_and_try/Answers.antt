@@ -1,5 +1,5 @@
 use Rattle.std.proofs.Common.{refl, ap, ◌∙◌}
-use Rattle.mutex_slow.specs.declared.view.MutexHand.{MutexHand}
+use Rattle.mutex_slow.specs.Types.{MutexHand}
 use Rattle.cpu_task.proofs.SleepCounts.{once-within}
 use Rattle.mutex_slow.proofs.Opening.{opens-behind, opens-before}
 use Rattle.mutex_slow.proofs.sleep.sleep_and_try.Goals as goal

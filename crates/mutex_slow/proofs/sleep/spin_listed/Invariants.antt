@@ -1,7 +1,7 @@
 use Rattle.std.proofs.Common.{◌≡◌, IsSome}
-use Rattle.lock_core.specs.declared.view.Held.TheVariants.{No}
 use Rattle.lock_core.specs.SiteHandles.{MovesOn}
 use Rattle.mutex_slow.specs.MutexPlaces.{StandsSame, IsInLine}
+use Rattle.mutex_slow.specs.Types.{No}
 use Rattle.mutex_slow.proofs.sleep.spin_listed.Given as goal
 
 abbrev pub invariant-loop : goal.invariant-loop

@@ -1,7 +1,6 @@
 use Rattle.std.proofs.Common.{arith, ap, ◌∙◌, rules}
-use Rattle.lock_core.specs.declared.view.Hand.{Hand}
-use Rattle.mutex_slow.specs.declared.view.MutexHand.{MutexHand}
 use Rattle.mutex_slow.specs.MutexPlaces.{dozes_of, seen_of}
+use Rattle.mutex_slow.specs.Types.{Hand, MutexHand}
 use Rattle.lock_core.proofs.Within.{pending-within}
 use Rattle.cpu_task.proofs.SleepCounts.{dozes-again, turns-again}
 use Rattle.mutex_slow.proofs.Opening.{opens-behind}

@@ -1,10 +1,10 @@
 use Rattle.std.proofs.Common.{◌≡◌, ◌≤◌, IsSome}
-use Rattle.lock_core.specs.declared.view.Held.TheVariants.{No}
 use Rattle.lock_core.specs.Views.{SpinHolds}
 use Rattle.lock_core.specs.Signals.{OnlyHeard}
 use Rattle.cpu_task.specs.CpuCounting.{SleepsInTurns, Dozes}
 use Rattle.lock_core.specs.SiteHandles.{MovesOn}
 use Rattle.mutex_slow.specs.MutexPlaces.{IsInLine, SetsNoWord, dozes_of}
+use Rattle.mutex_slow.specs.Types.{No}
 use Rattle.mutex_slow.proofs.sleep.wait.Given as goal
 
 abbrev pub invariant-loop : goal.invariant-loop

@@ -1,9 +1,9 @@
 use Rattle.std.proofs.Common.{◌≡◌, IsSome}
-use Rattle.lock_core.specs.declared.view.Held.TheVariants.{No}
 use Rattle.lock_core.specs.Locking.{OnlyTried}
 use Rattle.lock_core.specs.SiteHandles.{MovesOn}
 use Rattle.mutex_slow.specs.MutexPlaces.{seen_of, StandsSame, IsOutside}
 use Rattle.mutex_slow.specs.Mutexes.{OwesNoWake}
+use Rattle.mutex_slow.specs.Types.{No}
 use Rattle.mutex_slow.proofs.spin.spin_outside.Given as goal
 
 abbrev pub invariant-loop : goal.invariant-loop

@@ -1,8 +1,6 @@
 use Rattle.std.proofs.Common.{arith, subst, ap, sym, ◌∙◌, length}
-use Rattle.lock_core.specs.declared.view.Held.TheVariants.{No}
-use Rattle.lock_core.specs.declared.pass.Face.{Face}
+use Rattle.mutex_word.specs.Types.{No, Face, Free}
 use Rattle.lock_core.proofs.Sitting.{noted-on, sits-on, sits-released}
-use Rattle.mutex_word.specs.declared.host.Turn.TheVariants.{Free}
 use Rattle.mutex_word.proofs.Owning.{frees}
 use Rattle.mutex_word.proofs.Sitting.{its-number}
 use Rattle.lock_core.specs.Stores.{HasWord}

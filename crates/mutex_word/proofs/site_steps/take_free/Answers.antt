@@ -1,8 +1,6 @@
 use Rattle.std.proofs.Common.{false, subst, sym, ap, refl, ◌∙◌, IsSome, length}
-use Rattle.lock_core.specs.declared.view.Held.TheVariants.{Alone}
-use Rattle.lock_core.specs.declared.pass.Face.{Face}
+use Rattle.mutex_word.specs.Types.{Alone, Face, Take}
 use Rattle.lock_core.proofs.HandLaws.{not-both}
-use Rattle.mutex_word.specs.declared.host.Turn.TheVariants.{Take}
 use Rattle.mutex_word.proofs.Owning.{takes}
 use Rattle.mutex_word.proofs.Sitting.{its-number, sits-missed}
 use Rattle.lock_core.specs.Stores.{HasWord}

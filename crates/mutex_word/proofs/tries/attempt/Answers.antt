@@ -1,6 +1,6 @@
 use Rattle.std.proofs.Common.{subst, sym, ap, ◌∙◌, ◌<◌, Option, Bool, ℕ, IfSome, rules}
-use Rattle.lock_core.specs.declared.pass.Face.{Face}
 use Rattle.mutex_word.specs.OwnerTries.{IsFail, IsOpen, Says}
+use Rattle.mutex_word.specs.Types.{Face}
 use Rattle.word_bits.specs.declared.TheConstants.{MAX_TASKS}
 use Rattle.mutex_word.proofs.Sitting.{its-number}
 use Rattle.mutex_word.proofs.Table.{owner-of, says}

@@ -1,8 +1,8 @@
 use Rattle.std.proofs.Common.{subst, sym, ap, Option, ℕ}
-use Rattle.lock_core.specs.declared.view.View.{View}
 use Rattle.lock_core.specs.Pasts.{FoundAt}
 use Rattle.mutex_word.specs.declared.host.Turn.TheVariants.{Hand as HandOn}
 use Rattle.mutex_word.specs.OwnerTries.{IsHanded, IsMine, Left}
+use Rattle.mutex_word.specs.Types.{View}
 use Rattle.mutex_word.proofs.Table.{owner-of, handed-on, handed-left}
 use Rattle.mutex_word.proofs.tries.hand_over.Goals as goal
 

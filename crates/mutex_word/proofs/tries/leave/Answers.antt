@@ -1,8 +1,7 @@
 use Rattle.std.proofs.Common.{arith, ap, sym, subst, Option, ℕ, ◌∙◌, length}
 use Rattle.lock_core.proofs.Sitting.{noted-on, sits-on, sits-released, some-number}
-use Rattle.lock_core.specs.declared.pass.Face.{Face}
-use Rattle.lock_core.specs.declared.view.Held.TheVariants.{No}
 use Rattle.mutex_word.specs.OwnerTries.{IsMine}
+use Rattle.mutex_word.specs.Types.{Face, No}
 use Rattle.mutex_word.proofs.Owning.{leaves}
 use Rattle.lock_core.specs.Stores.{HasWord}
 use Rattle.mutex_word.proofs.tries.leave.Goals as goal

@@ -1,10 +1,8 @@
 use Rattle.std.proofs.Common.{subst, sym, ap, ◌∙◌, ◌+◌, Option, ℕ, inl, arith}
-use Rattle.lock_core.specs.declared.pass.Face.{Face}
-use Rattle.lock_core.specs.declared.view.View.{View}
 use Rattle.lock_core.specs.Views.{ticked}
 use Rattle.lock_core.specs.Pasts.{FoundAt}
-use Rattle.mutex_word.specs.declared.host.Turn.TheVariants.{Free}
 use Rattle.mutex_word.specs.OwnerTries.{IsReleased, IsMine, Left}
+use Rattle.mutex_word.specs.Types.{Face, View, Free}
 use Rattle.mutex_word.proofs.Trying.{unasked-on}
 use Rattle.mutex_word.proofs.Table.{owner-of, released-flags}
 use Rattle.mutex_word.proofs.tries.release.Goals as goal

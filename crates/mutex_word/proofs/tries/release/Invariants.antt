@@ -2,7 +2,7 @@ use Rattle.std.proofs.Common.{◌≡◌, ◌≤◌, ℕ}
 use Rattle.lock_core.specs.SitePasses.{Sits}
 use Rattle.lock_core.specs.Pasts.{FoundAt, GoesOn, IsOwnStep}
 use Rattle.mutex_word.specs.OwnerTries.{FindsUnasked, IsMine}
-use Rattle.mutex_word.specs.declared.host.Turn.TheVariants.{Free}
+use Rattle.mutex_word.specs.Types.{Free}
 use Rattle.mutex_word.proofs.tries.release.Given as goal
 
 abbrev pub invariant-loop : goal.invariant-loop

@@ -1,8 +1,6 @@
 use Rattle.std.proofs.Common.{ap, sym, subst, ◌∙◌, false, length}
 use Rattle.lock_core.specs.Pasts.{unseen}
-use Rattle.lock_core.specs.declared.pass.Face.{Face}
-use Rattle.lock_core.specs.declared.view.Held.TheVariants.{Alone}
-use Rattle.mutex_word.specs.declared.host.Turn.TheVariants.{Take}
+use Rattle.mutex_word.specs.Types.{Face, Alone, Take}
 use Rattle.mutex_word.proofs.Sitting.{sits-saw}
 use Rattle.lock_core.proofs.Sitting.{noted-on, sits-took, some-number}
 use Rattle.mutex_word.proofs.Owning.{gets, saw-word}

@@ -1,6 +1,5 @@
 use Rattle.std.proofs.Common.{arith, length, refl}
-use Rattle.lock_core.specs.declared.op.Op.TheVariants.{Store}
-use Rattle.osq_nodes.specs.declared.node.Place.TheVariants.{Out, Cleared}
+use Rattle.osq_nodes.specs.Types.{Store, Out, Cleared}
 use Rattle.osq_nodes.specs.Words.{locked_at}
 use Rattle.osq_nodes.proofs.Owning.{its-task, kept-by, moves-by}
 use Rattle.osq_nodes.proofs.Locals

@@ -1,4 +1,4 @@
-use Rattle.osq_nodes.specs.declared.node.Place.TheVariants.{Cleared}
+use Rattle.osq_nodes.specs.Types.{Cleared}
 use Rattle.osq_nodes.proofs.steps.clear_next.Given as goal
 
 abbrev pub ghosts-step : goal.ghosts-step

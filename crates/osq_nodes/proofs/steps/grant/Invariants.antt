@@ -1,4 +1,4 @@
-use Rattle.osq_nodes.specs.declared.node.Place.TheVariants.{Out}
+use Rattle.osq_nodes.specs.Types.{Out}
 use Rattle.osq_nodes.proofs.steps.grant.Given as goal
 
 abbrev pub ghosts-step : goal.ghosts-step

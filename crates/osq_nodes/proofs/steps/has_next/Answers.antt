@@ -1,7 +1,7 @@
 use Rattle.std.proofs.Common.{arith, length, refl, sym}
-use Rattle.lock_core.specs.declared.op.Op.TheVariants.{Load}
 use Rattle.osq_nodes.specs.Words.{next_at}
 use Rattle.osq_nodes.specs.OsqPlaces.{waits_at}
+use Rattle.osq_nodes.specs.Types.{Load}
 use Rattle.osq_nodes.proofs.Owning.{found-next, its-task, moves-by}
 use Rattle.osq_nodes.proofs.Locals
 use Rattle.osq_nodes.proofs.steps.has_next.Goals as goal

@@ -1,8 +1,7 @@
 use Rattle.std.proofs.Common.{arith, length, refl}
-use Rattle.lock_core.specs.declared.op.Op.TheVariants.{Load}
-use Rattle.osq_nodes.specs.declared.node.Place.TheVariants.{Waiting}
 use Rattle.osq_nodes.specs.Words.{locked_at}
 use Rattle.osq_nodes.specs.OsqSteps.{look_place}
+use Rattle.osq_nodes.specs.Types.{Load, Waiting}
 use Rattle.osq_nodes.proofs.Owning.{found-there, its-task, moves-by}
 use Rattle.osq_nodes.proofs.Locals
 use Rattle.osq_nodes.proofs.steps.is_granted.Goals as goal

@@ -1,7 +1,7 @@
 use Rattle.std.proofs.Common.{length, refl, sym}
-use Rattle.lock_core.specs.declared.op.Op.TheVariants.{Load}
 use Rattle.osq_nodes.specs.Words.{tail_at}
 use Rattle.osq_nodes.specs.OsqPlaces.{waits_at}
+use Rattle.osq_nodes.specs.Types.{Load}
 use Rattle.osq_nodes.proofs.Owning.{moves-by}
 use Rattle.osq_nodes.proofs.Locals
 use Rattle.osq_nodes.proofs.steps.is_last.Goals as goal

@@ -1,9 +1,8 @@
 use Rattle.std.proofs.Common.{arith, length, refl, suc, sym, ◌≡◌}
-use Rattle.lock_core.specs.declared.op.Op.TheVariants.{Exchange}
-use Rattle.osq_nodes.specs.declared.node.Place.TheVariants.{Out}
 use Rattle.osq_nodes.specs.Words.{code_in, tail_at}
 use Rattle.osq_nodes.specs.OsqSteps.{try_place}
 use Rattle.osq_nodes.specs.OsqPlaces.{waits_at}
+use Rattle.osq_nodes.specs.Types.{Exchange, Out}
 use Rattle.osq_nodes.proofs.Owning.{moves-by}
 use Rattle.osq_nodes.proofs.Locals
 use Rattle.osq_nodes.proofs.steps.leave_tail.Goals as goal

@@ -1,6 +1,6 @@
 use Rattle.osq_nodes.specs.OsqSteps.{try_place}
+use Rattle.osq_nodes.specs.Types.{Out}
 use Rattle.lock_core.specs.Ops.{first_of}
-use Rattle.osq_nodes.specs.declared.node.Place.TheVariants.{Out}
 use Rattle.osq_nodes.proofs.steps.leave_tail.Given as goal
 
 abbrev pub ghosts-step : goal.ghosts-step

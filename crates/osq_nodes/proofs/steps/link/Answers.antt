@@ -1,6 +1,5 @@
 use Rattle.std.proofs.Common.{ap, arith, length, refl, suc, ℕ, ◌≡◌}
-use Rattle.lock_core.specs.declared.op.Op.TheVariants.{Store}
-use Rattle.osq_nodes.specs.declared.node.Place.TheVariants.{Linking, Waiting}
+use Rattle.osq_nodes.specs.Types.{Store, Linking, Waiting}
 use Rattle.osq_nodes.specs.Words.{next_at}
 use Rattle.osq_nodes.proofs.Owning.{kept-by, moves-by}
 use Rattle.osq_nodes.proofs.Locals

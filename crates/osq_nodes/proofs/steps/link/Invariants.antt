@@ -1,4 +1,4 @@
-use Rattle.osq_nodes.specs.declared.node.Place.TheVariants.{Waiting}
+use Rattle.osq_nodes.specs.Types.{Waiting}
 use Rattle.osq_nodes.proofs.steps.link.Given as goal
 
 abbrev pub ghosts-step : goal.ghosts-step

@@ -1,8 +1,7 @@
 use Rattle.std.proofs.Common.{ap, arith, length, suc, sym, ℕ, ◌≡◌}
-use Rattle.lock_core.specs.declared.op.Op.TheVariants.{Store}
-use Rattle.osq_nodes.specs.declared.node.Place.TheVariants.{Swapped, Linking}
 use Rattle.osq_nodes.specs.Words.{prev_at}
 use Rattle.osq_nodes.specs.OsqSteps.{linking_of}
+use Rattle.osq_nodes.specs.Types.{Store, Swapped, Linking}
 use Rattle.osq_nodes.proofs.Owning.{its-task, kept-by, moves-by}
 use Rattle.osq_nodes.proofs.Locals
 use Rattle.osq_nodes.proofs.steps.store_prev.Goals as goal

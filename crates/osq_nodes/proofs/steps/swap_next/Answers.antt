@@ -1,9 +1,9 @@
 use Rattle.std.proofs.Common.{◌≡◌, ◌-◌, ◌∙◌, ℕ, suc, length, refl, ap, sym, arith}
-use Rattle.lock_core.specs.declared.op.Op.TheVariants.{Swap}
 use Rattle.osq_nodes.specs.Words.{next_at}
 use Rattle.osq_nodes.specs.OsqSteps.{take_place, taking_of, IsCodeOrNone}
 use Rattle.osq_nodes.specs.OsqPlaces.{waits_at}
 use Rattle.osq_nodes.specs.OsqRuled.{stepped}
+use Rattle.osq_nodes.specs.Types.{Swap}
 use Rattle.osq_nodes.proofs.Owning.{code-small, its-task, kept-by, moves-by, takes-code}
 use Rattle.osq_nodes.proofs.Locals
 use Rattle.osq_nodes.proofs.steps.swap_next.Goals as goal

@@ -1,8 +1,7 @@
 use Rattle.std.proofs.Common.{ap, arith, length, refl, suc, ℕ, ◌≡◌}
-use Rattle.lock_core.specs.declared.op.Op.TheVariants.{Swap}
-use Rattle.osq_nodes.specs.declared.node.Place.TheVariants.{Cleared}
 use Rattle.osq_nodes.specs.Words.{tail_at}
 use Rattle.osq_nodes.specs.OsqSteps.{swap_place, IsCodeOrNone}
+use Rattle.osq_nodes.specs.Types.{Swap, Cleared}
 use Rattle.osq_nodes.proofs.Owning.{kept-by, moves-by}
 use Rattle.osq_nodes.proofs.Locals
 use Rattle.osq_nodes.proofs.steps.swap_tail.Goals as goal

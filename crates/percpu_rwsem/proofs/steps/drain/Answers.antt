@@ -1,8 +1,6 @@
 use Rattle.std.proofs.Common.{◌∙◌, ◌+◌, arith, ap, subst, sym, refl, IsSome, length}
 use Rattle.lock_core.proofs.Sitting.{noted-on, sits-on, sits-took}
-use Rattle.lock_core.specs.declared.pass.Face.{Face}
-use Rattle.lock_core.specs.declared.view.Held.TheVariants.{Alone}
-use Rattle.percpu_rwsem.specs.declared.view.Phase.TheVariants.{Blocks}
+use Rattle.percpu_rwsem.specs.Types.{Face, Alone, Blocks}
 use Rattle.percpu_rwsem.proofs.Having.{has-count}
 use Rattle.percpu_rwsem.proofs.Stepping.{drains-at}
 use Rattle.percpu_rwsem.proofs.steps.drain.Goals as goal

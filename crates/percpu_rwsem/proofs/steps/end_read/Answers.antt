@@ -1,9 +1,7 @@
 use Rattle.std.proofs.Common.{◌∙◌, ℕ, ap, subst, sym, length}
-use Rattle.lock_core.specs.declared.pass.Face.{Face}
-use Rattle.lock_core.specs.declared.view.Held.TheVariants.{No}
 use Rattle.lock_core.specs.Pasts.{FoundAt}
-use Rattle.percpu_rwsem.specs.declared.view.Phase.TheVariants.{Idle}
 use Rattle.percpu_rwsem.specs.PercpuRuled.{count_at}
+use Rattle.percpu_rwsem.specs.Types.{Face, No, Idle}
 use Rattle.percpu_rwsem.proofs.Having.{has-count}
 use Rattle.percpu_rwsem.proofs.Stepping.{ends-at}
 use Rattle.lock_core.proofs.Sitting.{noted-on, sits-released}

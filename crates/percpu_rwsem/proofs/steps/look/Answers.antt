@@ -1,8 +1,6 @@
 use Rattle.std.proofs.Common.{◌∙◌, arith, ap, subst, sym, refl, IsSome, length}
 use Rattle.lock_core.proofs.Sitting.{noted-on, sits-on, sits-took}
-use Rattle.lock_core.specs.declared.pass.Face.{Face}
-use Rattle.lock_core.specs.declared.view.Held.TheVariants.{Shared}
-use Rattle.percpu_rwsem.specs.declared.view.Phase.TheVariants.{Reads}
+use Rattle.percpu_rwsem.specs.Types.{Face, Shared, Reads}
 use Rattle.percpu_rwsem.proofs.Having.{has-block}
 use Rattle.percpu_rwsem.proofs.Stepping.{looks-after}
 use Rattle.percpu_rwsem.proofs.steps.look.Goals as goal

@@ -1,7 +1,5 @@
 use Rattle.std.proofs.Common.{◌∙◌, ap, sym, length}
-use Rattle.lock_core.specs.declared.pass.Face.{Face}
-use Rattle.lock_core.specs.declared.view.Held.TheVariants.{No}
-use Rattle.percpu_rwsem.specs.declared.view.Phase.TheVariants.{Idle}
+use Rattle.percpu_rwsem.specs.Types.{Face, No, Idle}
 use Rattle.percpu_rwsem.proofs.Sitting.{sits-unheld}
 use Rattle.percpu_rwsem.proofs.Having.{has-block}
 use Rattle.percpu_rwsem.proofs.Stepping.{unblocks}

@@ -1,13 +1,12 @@
 use Rattle.std.proofs.Common.{◌∙◌, true}
-use Rattle.lock_core.specs.declared.view.Point.TheVariants.{Passing}
 use Rattle.lock_core.specs.LockHands.{frame_at}
 use Rattle.qspin_word.specs.SpinWordHandles.{spin_in}
 use Rattle.qspin_queue.specs.SpinQueueHands.{learning}
 use Rattle.qspin_queue.proofs.Queueing.{hands-now, hands-on, hands-from, hands-now-from}
 use Rattle.qspin_queue.proofs.HeadSteps.{set-point, set-next, set-code, set-told, set-noted, set-top, set-leaves, late-top, late-leaves}
 use Rattle.std.proofs.Common.{ap}
-use Rattle.lock_core.specs.declared.view.LockHand.{LockHand}
 use Rattle.qspin_queue.specs.SpinQueueHands.{lock_hand_with}
+use Rattle.qspin_queue.specs.Types.{Passing, LockHand}
 use Rattle.qspin_word.proofs.Passing.{nodes-then}
 use Rattle.qspin_word.proofs.Noting.{noted-frame, noted-nodes, waits-noted}
 use Rattle.qspin_queue.proofs.queue.hand_on.Goals as goal

@@ -1,7 +1,7 @@
 use Rattle.std.proofs.Common.{refl, inl, inr, ap, ◌∙◌, arith}
-use Rattle.lock_core.specs.declared.view.Point.TheVariants.{Cleared}
 use Rattle.qspin_word.specs.SpinWordHandles.{lock_hand_of}
 use Rattle.qspin_queue.specs.SpinQueueHands.{lock_hand_with, node_at}
+use Rattle.qspin_queue.specs.Types.{Cleared}
 use Rattle.qspin_queue.proofs.Entering.{with-tried, with-queued}
 use Rattle.lock_core.specs.LockHands.{lock_hand_at}
 use Rattle.qspin_queue.proofs.queue.take_with.Goals as goal

@@ -1,5 +1,5 @@
 use Rattle.std.proofs.Common.{ap, ◌∙◌}
-use Rattle.lock_core.specs.declared.view.LockHand.{LockHand}
+use Rattle.qspin_queue.specs.Types.{LockHand}
 use Rattle.lock_core.specs.Nestings.{waits_at, pauses_at}
 use Rattle.qspin_word.proofs.Idling.{idles-then, idles-lock-hand, idles-ready}
 use Rattle.qspin_queue.proofs.Entering.{trying-idles}

@@ -1,10 +1,10 @@
 use Rattle.std.proofs.Common.{ap, sym, ℕ, subst, length}
-use Rattle.lock_core.specs.declared.op.Op.TheVariants.{Store}
 use Rattle.lock_core.specs.SpinFrames.{holds_at}
 use Rattle.lock_core.specs.Spins.{locked_at}
 use Rattle.qspin_word.specs.Allows.{SpinAllows}
 use Rattle.qspin_word.proofs.SpinSteps.{ends-none}
 use Rattle.qspin_queue.specs.SpinQueueHands.{cleared_locked}
+use Rattle.qspin_queue.specs.Types.{Store}
 use Rattle.qspin_queue.proofs.QueueSteps.{clears-locked}
 use Rattle.qspin_queue.proofs.steps.clear_locked.Goals as goal
 

@@ -1,10 +1,10 @@
 use Rattle.std.proofs.Common.{ap, sym, ◌∙◌, ℕ, subst, length}
-use Rattle.lock_core.specs.declared.op.Op.TheVariants.{Store}
 use Rattle.lock_core.specs.SpinFrames.{holds_at}
 use Rattle.lock_core.specs.Spins.{next_at}
 use Rattle.qspin_word.specs.Allows.{SpinAllows}
 use Rattle.qspin_word.proofs.SpinSteps.{ends-none}
 use Rattle.qspin_queue.specs.SpinQueueHands.{cleared_next}
+use Rattle.qspin_queue.specs.Types.{Store}
 use Rattle.qspin_queue.proofs.QueueSteps.{clears-next}
 use Rattle.qspin_queue.proofs.steps.clear_next.Goals as goal
 

@@ -1,11 +1,11 @@
 use Rattle.std.proofs.Common.{ap, ℕ, ◌<◌, ◌+◌, ◌*◌, ◌/◌, ◌%◌, subst, length}
-use Rattle.lock_core.specs.declared.op.Op.TheVariants.{Exchange}
 use Rattle.lock_core.specs.SpinFrames.{holds_at}
 use Rattle.lock_core.specs.Spins.{word_at}
 use Rattle.qspin_word.specs.Allows.{SpinAllows}
 use Rattle.qspin_queue.specs.SpinQueueHandles.{codes}
 use Rattle.qspin_word.proofs.SpinSteps.{ends-none}
 use Rattle.qspin_queue.specs.SpinQueueHands.{queued}
+use Rattle.qspin_queue.specs.Types.{Exchange}
 use Rattle.qspin_queue.proofs.QueueSteps.{queues}
 use Rattle.qspin_queue.proofs.steps.exchange_tail.Goals as goal
 

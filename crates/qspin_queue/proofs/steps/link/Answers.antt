@@ -1,11 +1,11 @@
 use Rattle.std.proofs.Common.{ap, sym, ◌∙◌, ℕ, subst, length}
-use Rattle.lock_core.specs.declared.op.Op.TheVariants.{Store}
 use Rattle.lock_core.specs.SpinFrames.{holds_at}
 use Rattle.lock_core.specs.LockHands.{frame_at}
 use Rattle.lock_core.specs.Spins.{next_at}
 use Rattle.qspin_word.specs.Allows.{SpinAllows}
 use Rattle.qspin_word.proofs.SpinSteps.{ends-none}
 use Rattle.qspin_queue.specs.SpinQueueHands.{linked}
+use Rattle.qspin_queue.specs.Types.{Store}
 use Rattle.qspin_queue.proofs.QueueSteps.{links}
 use Rattle.qspin_queue.proofs.steps.link.Goals as goal
 

@@ -1,10 +1,10 @@
 use Rattle.std.proofs.Common.{ap, sym, ◌∙◌, ℕ, subst, length}
-use Rattle.lock_core.specs.declared.op.Op.TheVariants.{Load}
 use Rattle.lock_core.specs.SpinFrames.{holds_at}
 use Rattle.lock_core.specs.Spins.{locked_at}
 use Rattle.qspin_word.specs.Allows.{SpinAllows}
 use Rattle.qspin_word.proofs.SpinSteps.{ends-none}
 use Rattle.qspin_queue.specs.SpinQueueHands.{heard}
+use Rattle.qspin_queue.specs.Types.{Load}
 use Rattle.qspin_queue.proofs.QueueSteps.{hears}
 use Rattle.qspin_queue.proofs.steps.load_locked.Goals as goal
 

@@ -1,12 +1,11 @@
 use Rattle.std.proofs.Common.{ap, sym, ◌∙◌, ℕ, ◌<◌, subst, length}
-use Rattle.lock_core.specs.declared.op.Op.TheVariants.{Load}
-use Rattle.lock_core.specs.declared.view.Point.TheVariants.{Head}
 use Rattle.lock_core.specs.SpinFrames.{holds_at}
 use Rattle.lock_core.specs.Spins.{next_at}
 use Rattle.qspin_word.specs.Allows.{SpinAllows}
 use Rattle.qspin_queue.specs.SpinQueueHandles.{codes}
 use Rattle.qspin_word.proofs.SpinSteps.{ends-none}
 use Rattle.qspin_queue.specs.SpinQueueHands.{learnt}
+use Rattle.qspin_queue.specs.Types.{Load, Head}
 use Rattle.qspin_queue.proofs.QueueSteps.{learns}
 use Rattle.qspin_queue.proofs.steps.load_next.Goals as goal
 

@@ -1,11 +1,10 @@
 use Rattle.std.proofs.Common.{ap, sym, ◌∙◌, ℕ, ◌<◌, subst, length}
-use Rattle.lock_core.specs.declared.op.Op.TheVariants.{Load}
-use Rattle.lock_core.specs.declared.view.Point.TheVariants.{Passing}
 use Rattle.lock_core.specs.Spins.{next_at}
 use Rattle.qspin_word.specs.Allows.{SpinAllows}
 use Rattle.qspin_queue.specs.SpinQueueHandles.{codes}
 use Rattle.qspin_word.proofs.SpinSteps.{still-holds}
 use Rattle.qspin_queue.specs.SpinQueueHands.{learnt}
+use Rattle.qspin_queue.specs.Types.{Load, Passing}
 use Rattle.qspin_queue.proofs.QueueSteps.{learns-late, learnt-holds}
 use Rattle.qspin_queue.proofs.steps.load_successor.Goals as goal
 

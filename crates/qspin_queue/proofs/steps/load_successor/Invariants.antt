@@ -1,7 +1,7 @@
 use Rattle.qspin_queue.specs.SpinQueueHands.{learnt}
-use Rattle.lock_core.specs.declared.view.Point.TheVariants.{Passing}
 use Rattle.std.proofs.Common.{◌<◌}
 use Rattle.qspin_queue.specs.SpinQueueHandles.{codes}
+use Rattle.qspin_queue.specs.Types.{Passing}
 use Rattle.qspin_queue.proofs.steps.load_successor.Given as goal
 
 abbrev pub ghosts-spin_step : goal.ghosts-spin_step

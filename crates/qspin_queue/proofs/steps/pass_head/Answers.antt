@@ -1,9 +1,9 @@
 use Rattle.std.proofs.Common.{ap, sym, ◌∙◌, ℕ, subst, length}
-use Rattle.lock_core.specs.declared.op.Op.TheVariants.{Store}
 use Rattle.lock_core.specs.Spins.{locked_at}
 use Rattle.qspin_word.specs.Allows.{SpinAllows}
 use Rattle.qspin_word.proofs.SpinSteps.{still-holds}
 use Rattle.qspin_queue.specs.SpinQueueHands.{passed}
+use Rattle.qspin_queue.specs.Types.{Store}
 use Rattle.qspin_queue.proofs.QueueSteps.{tells-next, passed-holds}
 use Rattle.qspin_queue.proofs.steps.pass_head.Goals as goal
 

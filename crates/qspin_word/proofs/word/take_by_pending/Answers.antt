@@ -1,12 +1,11 @@
 use Rattle.std.proofs.Common.{ap, inl, inr, ◌+◌, ◌∙◌, arith, true, false}
-use Rattle.lock_core.specs.declared.view.View.{View}
+use Rattle.qspin_word.specs.Types.{View, Taking}
 use Rattle.lock_core.specs.Spins.{word_at}
 use Rattle.qspin_word.proofs.Refusing.{keeps-seen, saw-pending, saw-tail}
 use Rattle.qspin_word.proofs.Rivals.{first-rival}
 use Rattle.qspin_word.proofs.Owning.{first-owns}
 use Rattle.qspin_word.proofs.Passing.{owns-nodes, tail-point, tail-nodes, pending-from, pending-later, pending-nodes-all, pending-gained, owns-told, owns-noted}
 use Rattle.qspin_word.proofs.Noting.{flags-eq, flags-then, waits-noted, noted-nodes, refused-told}
-use Rattle.lock_core.specs.declared.view.Point.TheVariants.{Taking}
 use Rattle.qspin_word.specs.Ways.{lock_hand_to}
 use Rattle.qspin_word.proofs.Passing.{nodes-then}
 use Rattle.qspin_word.proofs.word.take_by_pending.Goals as goal

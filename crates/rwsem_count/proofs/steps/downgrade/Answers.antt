@@ -1,7 +1,5 @@
 use Rattle.std.proofs.Common.{◌∙◌, ap, subst, sym, length}
-use Rattle.lock_core.specs.declared.pass.Face.{Face}
-use Rattle.lock_core.specs.declared.view.Held.TheVariants.{Shared}
-use Rattle.rwsem_count.specs.declared.view.Bias.TheVariants.{Clear}
+use Rattle.rwsem_count.specs.Types.{Face, Shared, Clear}
 use Rattle.rwsem_count.proofs.Counting.{downs}
 use Rattle.rwsem_count.proofs.Sitting.{sits-downgraded}
 use Rattle.lock_core.specs.Stores.{HasWord}

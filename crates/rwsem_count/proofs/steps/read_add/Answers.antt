@@ -1,8 +1,6 @@
 use Rattle.std.proofs.Common.{◌∙◌, arith, ap, subst, sym, length}
-use Rattle.lock_core.specs.declared.pass.Face.{Face}
-use Rattle.lock_core.specs.declared.view.Held.TheVariants.{Shared}
+use Rattle.rwsem_count.specs.Types.{Face, Shared, Clear}
 use Rattle.lock_core.proofs.HandLaws.{not-both}
-use Rattle.rwsem_count.specs.declared.view.Bias.TheVariants.{Clear}
 use Rattle.rwsem_count.proofs.Counting.{reads}
 use Rattle.rwsem_count.proofs.Sitting.{sits-missed}
 use Rattle.lock_core.specs.Stores.{HasWord}

@@ -1,7 +1,5 @@
 use Rattle.std.proofs.Common.{◌∙◌, ap, subst, sym, length}
-use Rattle.lock_core.specs.declared.pass.Face.{Face}
-use Rattle.lock_core.specs.declared.view.Held.TheVariants.{No}
-use Rattle.rwsem_count.specs.declared.view.Bias.TheVariants.{Clear}
+use Rattle.rwsem_count.specs.Types.{Face, No, Clear}
 use Rattle.rwsem_count.proofs.Counting.{frees-alone}
 use Rattle.lock_core.specs.Stores.{HasWord}
 use Rattle.lock_core.proofs.Sitting.{has-number, noted-on, sits-released}

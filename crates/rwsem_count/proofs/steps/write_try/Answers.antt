@@ -1,7 +1,5 @@
 use Rattle.std.proofs.Common.{◌∙◌, arith, ap, subst, sym, length}
-use Rattle.lock_core.specs.declared.pass.Face.{Face}
-use Rattle.lock_core.specs.declared.view.Held.TheVariants.{Alone}
-use Rattle.rwsem_count.specs.declared.view.Bias.TheVariants.{Clear}
+use Rattle.rwsem_count.specs.Types.{Face, Alone, Clear}
 use Rattle.rwsem_count.proofs.Counting.{writer-gets}
 use Rattle.rwsem_count.proofs.Sitting.{sits-missed}
 use Rattle.lock_core.specs.Stores.{HasWord}

@@ -1,6 +1,6 @@
 use Rattle.std.proofs.Common.{◌∙◌, arith, ap, length, sym}
 use Rattle.cpu_task.specs.CpuCounting.{slept}
-use Rattle.rwsem_wake.specs.declared.duty.SemWake.{SemWake}
+use Rattle.rwsem_slow.specs.Types.{SemWake}
 use Rattle.rwsem_wake.specs.RwSemPlaces.{seen_of}
 use Rattle.rwsem_wake.specs.RwSemWakes.{woken_tasks}
 use Rattle.rwsem_slow.proofs.Woken.{left-within}

@@ -4,7 +4,7 @@ use Rattle.lock_core.specs.Shown.{FindsSince}
 use Rattle.lock_core.proofs.Within.{since-within}
 use Rattle.wait_list.specs.Lists.{first_code, without}
 use Rattle.rwsem_count.specs.Counts.{shared_weight}
-use Rattle.rwsem_wake.specs.declared.view.SemHand.{SemHand}
+use Rattle.rwsem_slow.specs.Types.{SemHand}
 use Rattle.rwsem_wake.specs.Grants.{summing}
 use Rattle.rwsem_wake.specs.SemParts.{some_of}
 use Rattle.rwsem_wake.specs.RwSemPlaces.{seen_of}

@@ -1,11 +1,9 @@
 use Rattle.std.proofs.Common.{◌∙◌, ap, arith, inl, refl, subst, sym}
-use Rattle.lock_core.specs.declared.view.Hand.{Hand}
 use Rattle.rwsem_slow.specs.Queued.{IsInTransit}
-use Rattle.rwsem_wake.specs.declared.view.RwSemHand.{RwSemHand}
+use Rattle.rwsem_slow.specs.Types.{Hand, RwSemHand, Reads}
 use Rattle.rwsem_wake.specs.RwSemViews.{V}
 use Rattle.rwsem_wake.specs.RwSemPlaces.{seen_of}
 use Rattle.lock_core.proofs.Within.{pending-within}
-use Rattle.rwsem_wake.specs.declared.view.Wait.TheVariants.{Reads}
 use Rattle.rwsem_slow.proofs.Marking.{marked}
 use Rattle.rwsem_slow.proofs.reader.read_in_line.Goals as goal
 

@@ -1,10 +1,8 @@
 use Rattle.std.proofs.Common.{◌∙◌, sym, subst, ap, arith}
-use Rattle.lock_core.specs.declared.how.Interrupted.{Interrupted}
-use Rattle.lock_core.specs.declared.view.Hand.{Hand}
+use Rattle.rwsem_slow.specs.Types.{Interrupted, Hand, SemHand}
 use Rattle.lock_core.specs.Locking.{SawPending}
 use Rattle.lock_core.proofs.Within.{err-map, pending-within}
 use Rattle.rwsem_count.specs.Counts.{shared_weight}
-use Rattle.rwsem_wake.specs.declared.view.SemHand.{SemHand}
 use Rattle.rwsem_wake.specs.RwSemPlaces.{seen_of}
 use Rattle.rwsem_wake.specs.RwSemViews.{V, IsDone}
 use Rattle.rwsem_slow.proofs.BiasHolds.{consumed-on, keeps-line-on, line-on, lock-on, shares-on, shares-takes, still-transit, waited-on}

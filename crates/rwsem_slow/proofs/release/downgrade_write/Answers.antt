@@ -1,11 +1,9 @@
 use Rattle.std.proofs.Common.{◌∙◌, ◌+◌, sym, ap, subst, arith, refl}
-use Rattle.lock_core.specs.declared.view.Hand.{Hand}
-use Rattle.lock_core.specs.declared.view.Held.TheVariants.{Shared}
+use Rattle.rwsem_slow.specs.Types.{Hand, Shared, ReadOwned}
 use Rattle.lock_core.specs.Kinds.{semaphore, wakes_down}
 use Rattle.lock_core.specs.Records.{bit}
 use Rattle.rwsem_wake.specs.RwSemViews.{V}
 use Rattle.rwsem_slow.proofs.Ending.{leaves-spared, leaves-woken, turns-hold}
-use Rattle.rwsem_wake.specs.declared.wake.WakeType.TheVariants.{ReadOwned}
 use Rattle.rwsem_wake.specs.RwSemPlaces.{seen_of}
 use Rattle.rwsem_slow.proofs.Woken.{wakes-asked, wakes-spared}
 use Rattle.rwsem_slow.proofs.release.downgrade_write.Goals as goal

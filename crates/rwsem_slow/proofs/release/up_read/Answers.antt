@@ -1,11 +1,9 @@
 use Rattle.std.proofs.Common.{◌∙◌, refl, sym, ap, subst, arith}
-use Rattle.lock_core.specs.declared.view.Hand.{Hand}
-use Rattle.lock_core.specs.declared.view.Held.TheVariants.{No}
+use Rattle.rwsem_slow.specs.Types.{Hand, No, Any}
 use Rattle.lock_core.specs.Kinds.{semaphore, wakes_shared}
 use Rattle.lock_core.specs.Records.{bit}
 use Rattle.rwsem_wake.specs.RwSemViews.{V}
 use Rattle.rwsem_slow.proofs.Ending.{leaves-spared, leaves-woken, turns-hold}
-use Rattle.rwsem_wake.specs.declared.wake.WakeType.TheVariants.{Any}
 use Rattle.rwsem_wake.specs.RwSemPlaces.{seen_of}
 use Rattle.rwsem_slow.proofs.Woken.{wakes-asked, wakes-spared}
 use Rattle.rwsem_slow.proofs.release.up_read.Goals as goal

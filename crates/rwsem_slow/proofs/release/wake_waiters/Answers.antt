@@ -1,8 +1,6 @@
 use Rattle.std.proofs.Common.{◌∙◌, arith, ap, inl, length, refl, sym}
 use Rattle.cpu_task.specs.CpuCounting.{slept}
-use Rattle.lock_core.specs.declared.view.Hand.{Hand}
-use Rattle.rwsem_wake.specs.declared.duty.SemWake.{SemWake}
-use Rattle.rwsem_wake.specs.declared.view.RwSemHand.{RwSemHand}
+use Rattle.rwsem_slow.specs.Types.{Hand, SemWake, RwSemHand}
 use Rattle.rwsem_wake.specs.RwSemPlaces.{seen_of}
 use Rattle.rwsem_wake.specs.RwSemViews.{V}
 use Rattle.rwsem_wake.specs.RwSemWakes.{woken_tasks}

@@ -1,12 +1,8 @@
 use Rattle.std.proofs.Common.{◌∙◌, ap, arith, inl, refl}
-use Rattle.lock_core.specs.declared.view.Hand.{Hand}
 use Rattle.rwsem_wake.specs.RwSemPlaces.{seen_of}
 use Rattle.lock_core.proofs.Within.{pending-within}
-use Rattle.lock_core.specs.declared.how.How.TheVariants.{Slept}
-use Rattle.lock_core.specs.declared.pass.Face.{Face}
-use Rattle.lock_core.specs.declared.view.Held.TheVariants.{Alone}
-use Rattle.lock_core.specs.declared.view.SpinHand.{SpinHand}
 use Rattle.rwsem_slow.specs.RwSemOpening.{IsOpen}
+use Rattle.rwsem_slow.specs.Types.{Hand, Slept, Face, Alone, SpinHand}
 use Rattle.rwsem_wake.specs.RwSemViews.{V}
 use Rattle.cpu_task.proofs.SleepCounts.{turns-moved}
 use Rattle.rwsem_slow.proofs.Opening.{takes-before, takes-behind}

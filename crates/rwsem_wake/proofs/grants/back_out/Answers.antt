@@ -1,8 +1,6 @@
 use Rattle.std.proofs.Common.{◌/◌, ◌%◌, ◌==◌, sym, ap, subst}
-use Rattle.rwsem_count.specs.declared.view.Bias.{Bias}
-use Rattle.rwsem_wake.specs.declared.view.SemHand.{SemHand}
-use Rattle.rwsem_wake.specs.declared.view.Stage.TheVariants.{Marked}
 use Rattle.rwsem_wake.specs.Grants.{HasMarked, OnlySem, marked, unreserved, saw_handoff}
+use Rattle.rwsem_wake.specs.Types.{Bias, SemHand, Marked}
 use Rattle.rwsem_wake.proofs.Courses.{only-one-step, only-more, sem-after}
 use Rattle.rwsem_wake.proofs.Flags.{flag-is}
 use Rattle.rwsem_wake.proofs.grants.back_out.Goals as goal

@@ -1,15 +1,11 @@
 use Rattle.std.proofs.Common.{◌≡◌, ◌∙◌, ℕ, ◌+◌, ◌*◌, ◌/◌, ◌%◌, ◌==◌, length, sym, refl, ap, subst, arith}
 use Rattle.lock_core.specs.Records.{bit}
-use Rattle.lock_core.specs.declared.view.Held.{Held}
-use Rattle.lock_core.specs.declared.view.View.{View}
 use Rattle.wait_list.specs.Lists.{Part}
-use Rattle.rwsem_count.specs.declared.view.Bias.{Bias}
 use Rattle.rwsem_count.specs.Counts.{early_weight, late_weight, shared_weight}
 use Rattle.wait_list.proofs.Appending.{byte-bit}
-use Rattle.rwsem_wake.specs.declared.view.SemHand.{SemHand}
-use Rattle.rwsem_wake.specs.declared.view.Stage.TheVariants.{Counted}
 use Rattle.rwsem_wake.specs.SemParts.{some_of, transit_weight}
 use Rattle.rwsem_wake.specs.Grants.{OnlySem, TurnsTo, counted, gains, looked, losses}
+use Rattle.rwsem_wake.specs.Types.{Held, View, Bias, SemHand, Counted}
 use Rattle.rwsem_wake.proofs.Courses.{only-one-step, only-more, sem-after, list-after, sum-some, sum-by}
 use Rattle.rwsem_wake.proofs.Flags.{flag-bit}
 use Rattle.rwsem_wake.proofs.grants.count_batch.Goals as goal

@@ -1,9 +1,7 @@
 use Rattle.std.proofs.Common.{◌∙◌, ℕ, ◌+◌, List, drop, sym, refl, ap, subst, IsSome, arith}
 use Rattle.std.proofs.lemmas.List.{drop_more}
-use Rattle.lock_core.specs.declared.view.View.{View}
-use Rattle.lock_core.specs.declared.pass.Face.{Face}
-use Rattle.rwsem_wake.specs.declared.view.SemHand.{SemHand}
 use Rattle.rwsem_wake.specs.Grants.{OnlySem, granted, granting_on, still_granting, tail}
+use Rattle.rwsem_wake.specs.Types.{View, Face, SemHand}
 use Rattle.rwsem_wake.proofs.Courses.{only-one-step, only-more, sem-after, starts-granting}
 use Rattle.rwsem_wake.proofs.grants.grant_all.Goals as goal
 

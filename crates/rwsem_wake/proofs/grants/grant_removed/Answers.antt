@@ -1,6 +1,6 @@
 use Rattle.std.proofs.Common.{sym, refl, subst}
-use Rattle.rwsem_wake.specs.declared.view.SemHand.{SemHand}
 use Rattle.rwsem_wake.specs.Grants.{IsGranting, OnlySem, all_granted, counted, summing}
+use Rattle.rwsem_wake.specs.Types.{SemHand}
 use Rattle.rwsem_wake.proofs.Courses.{only-more, sem-after, goes-granting}
 use Rattle.rwsem_wake.proofs.grants.grant_removed.Goals as goal
 

@@ -1,10 +1,10 @@
 use Rattle.std.proofs.Common.{◌∙◌, sym, ap, arith, subst, length}
 use Rattle.word_bits.specs.LockWords.{IsLawfulCount}
-use Rattle.lock_core.specs.declared.op.Op.TheVariants.{Exchange}
 use Rattle.lock_core.proofs.Sitting.{has-number, sits-on, some-number}
 use Rattle.rwsem_wake.specs.GrantQueues.{asked}
 use Rattle.rwsem_wake.proofs.WakeKinds.{wakes-ask}
 use Rattle.rwsem_wake.specs.Grants.{sem_part}
+use Rattle.rwsem_wake.specs.Types.{Exchange}
 use Rattle.rwsem_wake.proofs.Stepping.{count-does}
 use Rattle.rwsem_wake.proofs.QueueSteps.{on-ask-write}
 use Rattle.lock_core.specs.Stores.{HasWord}

@@ -1,10 +1,9 @@
 use Rattle.std.proofs.Common.{◌∙◌, ◌+◌, ◌*◌, sym, ap, arith, refl, length}
-use Rattle.lock_core.specs.declared.op.Op.TheVariants.{Store}
 use Rattle.lock_core.proofs.RowLaws.{none-some}
 use Rattle.lock_core.proofs.Sitting.{sits-on}
 use Rattle.rwsem_wake.specs.Grants.{sem_part, summing, anything}
+use Rattle.rwsem_wake.specs.Types.{Store, Summing}
 use Rattle.rwsem_wake.proofs.WakeKinds.{wakes-turn-either}
-use Rattle.rwsem_wake.specs.declared.view.Stage.TheVariants.{Summing}
 use Rattle.rwsem_wake.proofs.Stepping.{mark-does}
 use Rattle.rwsem_wake.proofs.QueueSteps.{on-clear-first}
 use Rattle.rwsem_wake.proofs.Having.{has-line}

@@ -1,12 +1,11 @@
 use Rattle.std.proofs.Common.{◌∙◌, sym, ap, arith, subst, length}
 use Rattle.word_bits.specs.LockWords.{IsLawfulCount}
-use Rattle.lock_core.specs.declared.op.Op.TheVariants.{And}
 use Rattle.lock_core.proofs.Sitting.{has-number, sits-on, some-number}
 use Rattle.rwsem_wake.specs.GrantQueues.{rested}
 use Rattle.rwsem_wake.proofs.WakeKinds.{wakes-empty}
 use Rattle.rwsem_wake.specs.Grants.{sem_part}
 use Rattle.rwsem_wake.specs.Duties.{paid}
-use Rattle.rwsem_wake.specs.declared.view.Stage.TheVariants.{Emptied}
+use Rattle.rwsem_wake.specs.Types.{And, Emptied}
 use Rattle.rwsem_wake.proofs.QueueLaws.{mine-at}
 use Rattle.rwsem_wake.proofs.Stepping.{count-attends}
 use Rattle.rwsem_wake.proofs.QueueSteps.{on-clear-flags}

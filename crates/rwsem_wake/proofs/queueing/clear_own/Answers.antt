@@ -1,11 +1,10 @@
 use Rattle.std.proofs.Common.{◌∙◌, ◌+◌, ◌*◌, sym, ap, arith, refl, inr, length}
-use Rattle.lock_core.specs.declared.op.Op.TheVariants.{Store}
 use Rattle.lock_core.proofs.RowLaws.{none-some}
 use Rattle.lock_core.proofs.Sitting.{sits-on}
 use Rattle.rwsem_wake.specs.Grants.{sem_part, anything}
 use Rattle.rwsem_wake.specs.GrantQueues.{rested}
+use Rattle.rwsem_wake.specs.Types.{Store, Removed, Rest}
 use Rattle.rwsem_wake.proofs.WakeKinds.{wakes-turn}
-use Rattle.rwsem_wake.specs.declared.view.Stage.TheVariants.{Removed, Rest}
 use Rattle.rwsem_wake.proofs.Stepping.{mark-does}
 use Rattle.rwsem_wake.proofs.QueueSteps.{on-clear-own}
 use Rattle.rwsem_wake.proofs.Having.{has-line}

@@ -1,13 +1,10 @@
 use Rattle.std.proofs.Common.{◌∙◌, ◌+◌, ◌*◌, ◌==◌, IsSome, sym, refl, ap, subst, arith, eq-eqb, ne_eqb, length}
-use Rattle.lock_core.specs.declared.op.Op.TheVariants.{Load}
-use Rattle.lock_core.specs.declared.pass.Face.{Face}
-use Rattle.lock_core.specs.declared.view.Held.TheVariants.{Shared}
 use Rattle.lock_core.proofs.Sitting.{noted-on, sits-on, sits-took}
-use Rattle.rwsem_count.specs.declared.view.Bias.TheVariants.{Clear}
 use Rattle.rwsem_wake.specs.Grants.{sem_part, anything}
 use Rattle.rwsem_wake.specs.GrantQueues.{heard}
 use Rattle.rwsem_wake.proofs.WakeKinds.{wakes-hear}
 use Rattle.rwsem_wake.specs.Duties.{heard_at}
+use Rattle.rwsem_wake.specs.Types.{Load, Face, Shared, Clear}
 use Rattle.rwsem_wake.proofs.Holding.{holds-by, shared-holds, heard-rests}
 use Rattle.rwsem_wake.proofs.Stepping.{grant-holds}
 use Rattle.rwsem_wake.proofs.QueueSteps.{on-hear}

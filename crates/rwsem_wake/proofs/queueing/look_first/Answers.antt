@@ -1,9 +1,9 @@
 use Rattle.std.proofs.Common.{◌∙◌, ◌+◌, ◌*◌, sym, ap, arith, get_or, length}
-use Rattle.lock_core.specs.declared.op.Op.TheVariants.{Load}
 use Rattle.lock_core.proofs.Sitting.{has-number, sits-on, some-number}
 use Rattle.rwsem_wake.specs.Grants.{sem_part, unmarked, anything}
 use Rattle.rwsem_wake.proofs.WakeKinds.{wakes-first}
 use Rattle.rwsem_wake.specs.Duties.{saw_mark, sees_itself}
+use Rattle.rwsem_wake.specs.Types.{Load}
 use Rattle.rwsem_wake.proofs.Stepping.{mark-attends}
 use Rattle.rwsem_wake.proofs.QueueSteps.{on-look-first}
 use Rattle.rwsem_wake.proofs.Having.{has-line}

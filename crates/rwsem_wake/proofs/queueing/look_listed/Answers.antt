@@ -1,6 +1,5 @@
 use Rattle.std.proofs.Common.{◌∙◌, sym, ap, arith, subst, length}
 use Rattle.word_bits.specs.LockWords.{IsLawfulCount}
-use Rattle.lock_core.specs.declared.op.Op.TheVariants.{Load}
 use Rattle.lock_core.proofs.Sitting.{has-number, sits-on, some-number}
 use Rattle.rwsem_wake.proofs.WakeKinds.{wakes-listed}
 use Rattle.rwsem_wake.specs.Grants.{sem_part}
@@ -8,6 +7,7 @@ use Rattle.rwsem_wake.specs.Duties.{saw_count}
 use Rattle.rwsem_wake.proofs.Stepping.{count-attends}
 use Rattle.rwsem_wake.proofs.QueueSteps.{on-listed, on-stay}
 use Rattle.rwsem_wake.specs.GrantQueues.{KnowsSome}
+use Rattle.rwsem_wake.specs.Types.{Load}
 use Rattle.lock_core.specs.Stores.{HasWord}
 use Rattle.rwsem_wake.proofs.queueing.look_listed.Goals as goal
 

@@ -1,11 +1,10 @@
 use Rattle.std.proofs.Common.{◌∙◌, ◌+◌, ◌*◌, sym, ap, arith, refl, inl, length}
-use Rattle.lock_core.specs.declared.op.Op.TheVariants.{Store}
 use Rattle.lock_core.proofs.Sitting.{has-number, sits-on, some-number}
 use Rattle.rwsem_wake.specs.Grants.{sem_part, anything}
 use Rattle.rwsem_wake.specs.GrantQueues.{rested}
 use Rattle.rwsem_wake.proofs.WakeKinds.{wakes-turn}
 use Rattle.rwsem_wake.specs.Duties.{overdue_weight}
-use Rattle.rwsem_wake.specs.declared.view.Stage.TheVariants.{Rest, Marking}
+use Rattle.rwsem_wake.specs.Types.{Store, Rest, Marking}
 use Rattle.rwsem_wake.proofs.Stepping.{mark-does}
 use Rattle.rwsem_wake.proofs.QueueSteps.{on-mark-asked}
 use Rattle.rwsem_wake.proofs.Having.{has-line}

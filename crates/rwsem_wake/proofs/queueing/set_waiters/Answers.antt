@@ -1,11 +1,10 @@
 use Rattle.std.proofs.Common.{◌∙◌, sym, ap, arith, refl, inr, subst, length}
 use Rattle.word_bits.specs.LockWords.{IsLawfulCount}
-use Rattle.lock_core.specs.declared.op.Op.TheVariants.{Or}
 use Rattle.lock_core.proofs.Sitting.{has-number, sits-on, some-number}
 use Rattle.rwsem_wake.specs.GrantQueues.{rested}
 use Rattle.rwsem_wake.proofs.WakeKinds.{wakes-turn}
 use Rattle.rwsem_wake.specs.Grants.{sem_part}
-use Rattle.rwsem_wake.specs.declared.view.Stage.TheVariants.{Rest, First}
+use Rattle.rwsem_wake.specs.Types.{Or, Rest, First}
 use Rattle.rwsem_wake.proofs.Stepping.{count-does}
 use Rattle.rwsem_wake.proofs.QueueSteps.{on-set}
 use Rattle.lock_core.specs.Stores.{HasWord}

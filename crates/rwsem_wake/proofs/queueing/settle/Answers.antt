@@ -1,14 +1,11 @@
 use Rattle.std.proofs.Common.{◌∙◌, ℕ, ◌%◌, ◌==◌, sym, ap, subst, arith, eq-eqb, ne_eqb, length}
 use Rattle.word_bits.specs.LockWords.{IsLawfulCount}
-use Rattle.lock_core.specs.declared.op.Op.TheVariants.{Load}
-use Rattle.lock_core.specs.declared.pass.Face.{Face}
-use Rattle.lock_core.specs.declared.view.Held.TheVariants.{Shared}
 use Rattle.lock_core.specs.Pasts.{FoundAt}
 use Rattle.lock_core.proofs.Sitting.{noted-on, sits-on, sits-took, some-number}
-use Rattle.rwsem_count.specs.declared.view.Bias.TheVariants.{Clear}
 use Rattle.rwsem_wake.specs.GrantQueues.{settled}
 use Rattle.rwsem_wake.proofs.WakeKinds.{wakes-settle}
 use Rattle.rwsem_wake.specs.Grants.{sem_part}
+use Rattle.rwsem_wake.specs.Types.{Load, Face, Shared, Clear}
 use Rattle.rwsem_wake.proofs.Holding.{holds-by, shared-holds, busy-held}
 use Rattle.rwsem_wake.proofs.Stepping.{count-holds}
 use Rattle.rwsem_wake.proofs.QueueSteps.{on-settle}

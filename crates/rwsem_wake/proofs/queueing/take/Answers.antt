@@ -1,14 +1,11 @@
 use Rattle.std.proofs.Common.{◌∙◌, ◌==◌, IsSome, sym, refl, ap, subst, arith, eq-eqb, ne_eqb, length}
 use Rattle.word_bits.specs.LockWords.{IsLawfulCount}
-use Rattle.lock_core.specs.declared.op.Op.TheVariants.{Exchange}
-use Rattle.lock_core.specs.declared.pass.Face.{Face}
-use Rattle.lock_core.specs.declared.view.Held.TheVariants.{Alone}
 use Rattle.lock_core.proofs.Sitting.{noted-on, sits-on, sits-took}
-use Rattle.rwsem_count.specs.declared.view.Bias.TheVariants.{Clear}
 use Rattle.rwsem_wake.specs.GrantQueues.{taken}
 use Rattle.rwsem_wake.proofs.WakeKinds.{wakes-take}
 use Rattle.rwsem_wake.specs.Grants.{sem_part}
 use Rattle.rwsem_wake.specs.Duties.{exchanged}
+use Rattle.rwsem_wake.specs.Types.{Exchange, Face, Alone, Clear}
 use Rattle.rwsem_wake.proofs.Holding.{holds-by, alone-holds, busy-held}
 use Rattle.rwsem_wake.proofs.Stepping.{count-holds}
 use Rattle.rwsem_wake.proofs.QueueSteps.{on-take}

@@ -1,10 +1,10 @@
 use Rattle.std.proofs.Common.{◌∙◌, ◌≤◌, sym, ap, arith, ◌-◌, subst, length}
 use Rattle.word_bits.specs.LockWords.{IsLawfulCount}
-use Rattle.lock_core.specs.declared.op.Op.TheVariants.{Sub}
 use Rattle.lock_core.proofs.Sitting.{has-number, sits-on, some-number}
 use Rattle.rwsem_wake.specs.Grants.{sem_part, unreserved}
 use Rattle.rwsem_wake.proofs.WakeKinds.{wakes-back}
 use Rattle.rwsem_wake.specs.Duties.{left_by}
+use Rattle.rwsem_wake.specs.Types.{Sub}
 use Rattle.rwsem_wake.proofs.Stepping.{count-attends}
 use Rattle.rwsem_wake.proofs.QueueSteps.{on-back}
 use Rattle.lock_core.specs.Stores.{HasWord}

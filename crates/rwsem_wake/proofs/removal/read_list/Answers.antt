@@ -3,8 +3,7 @@ use Rattle.word_bits.specs.declared.TheConstants.{MAX_TASKS}
 use Rattle.wait_list.proofs.Waiters.{few-tasks}
 use Rattle.rwsem_wake.proofs.Walking.{along-ends, along-full, along-on, along-read, along-there, among-on, knows-on, walk-next, walk-steps, walk-there}
 use Rattle.wait_list.specs.Lists.{AreAmong, IsStill, KnowsWaiter}
-use Rattle.wait_list.specs.declared.view.ListHand.{ListHand}
-use Rattle.rwsem_wake.specs.declared.view.RwSemHand.{RwSemHand}
+use Rattle.rwsem_wake.specs.Types.{ListHand, RwSemHand}
 use Rattle.rwsem_wake.proofs.Hosting.{finds-next}
 use Rattle.rwsem_wake.proofs.removal.read_list.Goals as goal
 

@@ -1,10 +1,7 @@
 use Rattle.std.proofs.Common.{◌∙◌, ◌≤◌, ℕ, List, get_or, length, sym, refl, ap, subst, arith}
-use Rattle.lock_core.specs.declared.view.SpinHand.{SpinHand}
-use Rattle.wait_list.specs.declared.view.Change.TheVariants.{Leave}
+use Rattle.rwsem_wake.specs.Types.{SpinHand, Leave, ListHand, RwSemHand}
 use Rattle.wait_list.specs.Lists.{AllowsChange, IsStill}
-use Rattle.wait_list.specs.declared.view.ListHand.{ListHand}
 use Rattle.lock_core.proofs.Sitting.{some-number}
-use Rattle.rwsem_wake.specs.declared.view.RwSemHand.{RwSemHand}
 use Rattle.rwsem_wake.proofs.Hosting.{removes}
 use Rattle.rwsem_wake.proofs.Removing.{removed-all, removed-may, removed-none, removed-one}
 use Rattle.rwsem_wake.proofs.removal.remove_all.Goals as goal

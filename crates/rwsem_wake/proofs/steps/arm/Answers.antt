@@ -1,8 +1,8 @@
 use Rattle.std.proofs.Common.{◌∙◌, ◌+◌, ◌*◌, sym, ap, arith, length}
-use Rattle.lock_core.specs.declared.op.Op.TheVariants.{Store}
 use Rattle.lock_core.proofs.RowLaws.{none-some}
 use Rattle.lock_core.proofs.Sitting.{sits-on}
 use Rattle.rwsem_wake.specs.Grants.{armed, anything}
+use Rattle.rwsem_wake.specs.Types.{Store}
 use Rattle.rwsem_wake.proofs.WakeKinds.{wakes-arm}
 use Rattle.rwsem_wake.proofs.Stepping.{grant-does}
 use Rattle.rwsem_wake.proofs.Waking.{on-arm}

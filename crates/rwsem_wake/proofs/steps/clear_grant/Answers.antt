@@ -1,7 +1,7 @@
 use Rattle.std.proofs.Common.{◌∙◌, ◌+◌, ◌*◌, sym, ap, arith, length}
-use Rattle.lock_core.specs.declared.op.Op.TheVariants.{Store}
 use Rattle.lock_core.proofs.Sitting.{has-number, sits-on, some-number}
 use Rattle.rwsem_wake.specs.Grants.{granted, anything}
+use Rattle.rwsem_wake.specs.Types.{Store}
 use Rattle.rwsem_wake.proofs.WakeKinds.{wakes-grant}
 use Rattle.rwsem_wake.proofs.Stepping.{grant-does}
 use Rattle.rwsem_wake.proofs.Waking.{on-grant}

@@ -1,9 +1,8 @@
 use Rattle.std.proofs.Common.{◌∙◌, ◌+◌, ◌*◌, sym, ap, arith, refl, inr, length}
-use Rattle.lock_core.specs.declared.op.Op.TheVariants.{Store}
 use Rattle.lock_core.proofs.Sitting.{has-number, sits-on, some-number}
 use Rattle.rwsem_wake.specs.Grants.{sem_part, summing, anything}
+use Rattle.rwsem_wake.specs.Types.{Store, Removing, Summing}
 use Rattle.rwsem_wake.proofs.WakeKinds.{wakes-turn}
-use Rattle.rwsem_wake.specs.declared.view.Stage.TheVariants.{Removing, Summing}
 use Rattle.rwsem_wake.proofs.Stepping.{mark-does}
 use Rattle.rwsem_wake.proofs.Waking.{on-clear-mark}
 use Rattle.rwsem_wake.proofs.Having.{has-line}

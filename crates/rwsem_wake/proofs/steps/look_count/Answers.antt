@@ -1,8 +1,8 @@
 use Rattle.std.proofs.Common.{◌∙◌, sym, ap, arith, subst, length}
 use Rattle.word_bits.specs.LockWords.{IsLawfulCount}
-use Rattle.lock_core.specs.declared.op.Op.TheVariants.{Load}
 use Rattle.lock_core.proofs.Sitting.{has-number, sits-on, some-number}
 use Rattle.rwsem_wake.specs.Grants.{sem_part, looked}
+use Rattle.rwsem_wake.specs.Types.{Load}
 use Rattle.rwsem_wake.proofs.WakeKinds.{wakes-look}
 use Rattle.rwsem_wake.proofs.Stepping.{count-does}
 use Rattle.rwsem_wake.proofs.Waking.{on-look}

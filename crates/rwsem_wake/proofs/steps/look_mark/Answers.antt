@@ -1,7 +1,7 @@
 use Rattle.std.proofs.Common.{◌∙◌, ◌+◌, ◌*◌, sym, ap, arith, get_or, length}
-use Rattle.lock_core.specs.declared.op.Op.TheVariants.{Load}
 use Rattle.lock_core.proofs.Sitting.{has-number, sits-on, some-number}
 use Rattle.rwsem_wake.specs.Grants.{sem_part, unmarked, anything}
+use Rattle.rwsem_wake.specs.Types.{Load}
 use Rattle.rwsem_wake.proofs.WakeKinds.{wakes-unmarked}
 use Rattle.rwsem_wake.proofs.Stepping.{mark-does}
 use Rattle.rwsem_wake.proofs.Waking.{on-look-mark}

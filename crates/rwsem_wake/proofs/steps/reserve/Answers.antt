@@ -1,10 +1,10 @@
 use Rattle.std.proofs.Common.{◌∙◌, sym, ap, arith, subst, length}
 use Rattle.word_bits.specs.LockWords.{IsLawfulCount}
-use Rattle.lock_core.specs.declared.op.Op.TheVariants.{Add}
 use Rattle.lock_core.proofs.Sitting.{has-number, sits-on, some-number}
 use Rattle.rwsem_wake.specs.Grants.{sem_part, reserved}
 use Rattle.rwsem_wake.proofs.WakeKinds.{wakes-reserve}
 use Rattle.rwsem_wake.specs.Duties.{paid}
+use Rattle.rwsem_wake.specs.Types.{Add}
 use Rattle.rwsem_wake.proofs.Stepping.{count-attends}
 use Rattle.rwsem_wake.proofs.Waking.{on-reserve}
 use Rattle.lock_core.specs.Stores.{HasWord}

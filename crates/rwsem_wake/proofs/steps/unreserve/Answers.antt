@@ -1,10 +1,9 @@
 use Rattle.std.proofs.Common.{◌∙◌, ◌/◌, ◌%◌, ◌==◌, sym, ap, arith, refl, subst, length}
 use Rattle.word_bits.specs.LockWords.{IsLawfulCount}
-use Rattle.lock_core.specs.declared.op.Op.TheVariants.{Sub}
 use Rattle.lock_core.proofs.Sitting.{has-number, sits-on, some-number}
 use Rattle.rwsem_wake.specs.Grants.{sem_part, unreserved}
+use Rattle.rwsem_wake.specs.Types.{Sub, Overdue}
 use Rattle.rwsem_wake.proofs.WakeKinds.{wakes-return}
-use Rattle.rwsem_wake.specs.declared.view.Stage.TheVariants.{Overdue}
 use Rattle.rwsem_wake.proofs.Stepping.{count-does}
 use Rattle.rwsem_wake.proofs.Waking.{on-unreserve}
 use Rattle.lock_core.specs.Stores.{HasWord}

@@ -1,9 +1,8 @@
 use Rattle.std.proofs.Common.{◌∙◌, subst, sym}
 use Rattle.word_bits.specs.OwnerWord.{task_code}
 use Rattle.wait_list.specs.Lists.{IsStill, sighted}
-use Rattle.wait_list.specs.declared.view.ListHand.{ListHand}
+use Rattle.rwsem_wake.specs.Types.{ListHand, RwSemHand}
 use Rattle.lock_core.proofs.Sitting.{some-number}
-use Rattle.rwsem_wake.specs.declared.view.RwSemHand.{RwSemHand}
 use Rattle.rwsem_wake.proofs.FirstLooks.{looks-by}
 use Rattle.rwsem_wake.proofs.wake.choose.Goals as goal
 

@@ -1,12 +1,10 @@
 use Rattle.std.proofs.Common.{◌∙◌, ℕ, ◌+◌, List, length, sym, subst, ap, arith}
 use Rattle.lock_core.specs.Records.{bit}
-use Rattle.wait_list.specs.declared.view.ListHand.{ListHand}
 use Rattle.wait_list.specs.Lists.{Knows, list_part}
 use Rattle.rwsem_count.specs.Counts.{early_weight}
-use Rattle.rwsem_wake.specs.declared.view.RwSemHand.{RwSemHand}
-use Rattle.rwsem_wake.specs.declared.view.SemHand.{SemHand}
 use Rattle.rwsem_wake.specs.Grants.{HasWholeBatch, IsRemoved, KeepsOut, all_granted}
 use Rattle.rwsem_wake.specs.SemParts.{some_of}
+use Rattle.rwsem_wake.specs.Types.{ListHand, RwSemHand, SemHand}
 use Rattle.rwsem_wake.proofs.Hosting.{only-sem}
 use Rattle.rwsem_wake.proofs.Granting.{is-removed, keeps-out, has-whole}
 use Rattle.rwsem_wake.proofs.Removing.{first-reads, grants-removed}

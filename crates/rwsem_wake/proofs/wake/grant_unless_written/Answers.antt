@@ -2,11 +2,9 @@ use Rattle.std.proofs.Common.{◌∙◌, ℕ, ◌≤◌, true, false, sym, subst
 use Rattle.lock_core.specs.Records.{bit}
 use Rattle.rwsem_wake.proofs.Flags.{flag-clear}
 use Rattle.lock_core.specs.Pasts.{FoundAt}
-use Rattle.wait_list.specs.declared.view.ListHand.{ListHand}
-use Rattle.rwsem_wake.specs.declared.view.RwSemHand.{RwSemHand}
-use Rattle.rwsem_wake.specs.declared.view.SemHand.{SemHand}
 use Rattle.rwsem_wake.specs.Grants.{MayReserve}
 use Rattle.rwsem_wake.specs.RwSemViews.{V}
+use Rattle.rwsem_wake.specs.Types.{ListHand, RwSemHand, SemHand}
 use Rattle.rwsem_wake.proofs.Granting.{first-waits, or-false, saw-writer}
 use Rattle.rwsem_wake.proofs.wake.grant_unless_written.Goals as goal
 

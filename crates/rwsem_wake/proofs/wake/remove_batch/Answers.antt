@@ -1,10 +1,10 @@
 use Rattle.std.proofs.Common.{◌∙◌, ℕ, List, length, sym, ap, subst, arith}
-use Rattle.wait_list.specs.declared.view.Waiter.{Waiter}
 use Rattle.wait_list.proofs.Waiters.{few-tasks}
 use Rattle.rwsem_wake.specs.Batches.{batch_of}
 use Rattle.rwsem_wake.specs.Grants.{AreTaskNumbers, KeepsOut}
 use Rattle.rwsem_wake.specs.RwSemViews.{V, MayPick, sem_of}
 use Rattle.rwsem_wake.specs.Removals.{AreHeads, BeginsWith, RemovesAll, without_all}
+use Rattle.rwsem_wake.specs.Types.{Waiter}
 use Rattle.rwsem_wake.proofs.Removing.{batch-begins, batch-heads, batch-some, empty-is, first-reads, heads-among, heads-few, length-all, removes-since}
 use Rattle.rwsem_wake.proofs.Walking.{knows-on}
 use Rattle.rwsem_wake.proofs.wake.remove_batch.Goals as goal

@@ -1,15 +1,12 @@
 use Rattle.std.proofs.Common.{◌∙◌, ℕ, [], ◌∷◌, false, IsSome, None, Option, Some, refl, sym, subst, ap, arith}
-use Rattle.lock_core.specs.declared.pass.Face.{Face}
 use Rattle.lock_core.specs.SiteHandles.{Finds}
-use Rattle.wait_list.specs.declared.view.Waiter.{Waiter}
-use Rattle.wait_list.specs.declared.view.ListHand.{ListHand}
 use Rattle.wait_list.specs.Lists.{IsStill, waiter_code}
-use Rattle.rwsem_wake.specs.declared.view.RwSemHand.{RwSemHand}
 use Rattle.rwsem_wake.specs.RwSemViews.{V}
 use Rattle.rwsem_wake.proofs.Hosting.{finds-first}
 use Rattle.rwsem_wake.proofs.Removing.{first-reads}
 use Rattle.rwsem_wake.proofs.FirstLooks.{looked-first, looked-list, looked-rests, not-owned, still-out, wakes-nobody, wakes-none-beside, wakes-readers, wakes-readers-none, wakes-writer}
 use Rattle.rwsem_wake.specs.RwSemWakes.{woken_tasks}
+use Rattle.rwsem_wake.specs.Types.{Face, Waiter, ListHand, RwSemHand}
 use Rattle.rwsem_wake.proofs.wake.wake.Goals as goal
 
 pub first-requires-clause-still : goal.first-requires-clause-still

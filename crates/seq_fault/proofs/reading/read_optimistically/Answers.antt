@@ -24,15 +24,15 @@ returns-then-before-eq1-clause-raced c =
     let one = ap (λ (z : V). z.steps) is in
     finds v x 1 seq_at c.watch-before.result _ _ _ (ap (λ (z : V). z.hand.task) is) one c.watch-before.ensures.on.last c.watch-before.ensures.found c.watch-before.ensures.on.goes_on (λ p t. t)
 
-pub measure-front-requires-clause-on : goal.measure-front-requires-clause-on
-measure-front-requires-clause-on c =
+pub measure-front-requires-clause-watching : goal.measure-front-requires-clause-watching
+measure-front-requires-clause-watching c =
     let before = c.watch-before.result in
     let even : before % 2 ≡ 0 = (let n = c.if-before-eq1.false in omega (arith, n)) in
     let b = c.watch-before.ensures.even even in
     (glance before b.0 b.1, ap (λ (z : V). z.ext) b.3)
 
-pub search_words-requires-clause-on : goal.search_words-requires-clause-on
-search_words-requires-clause-on c =
+pub search_words-requires-clause-watching : goal.search_words-requires-clause-watching
+search_words-requires-clause-watching c =
     let before = c.watch-before.result in
     let even : before % 2 ≡ 0 = (let n = c.if-before-eq1.false in omega (arith, n)) in
     let b = c.watch-before.ensures.even even in

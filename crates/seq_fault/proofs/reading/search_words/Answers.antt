@@ -6,8 +6,8 @@ use Rattle.seq_fault.proofs.reading.search_words.Goals as goal
 pub loop-at-init : goal.loop-at-init
 loop-at-init c = (c.requires.own, refl, (λ p t. t), c.requires.latest, refl, λ m on. searched-none m c.args.search.now c.args.pass.now.seat.me.0.view c.requires.begins c.requires.agrees on)
 
-pub peek-word-requires-clause-on : goal.peek-word-requires-clause-on
-peek-word-requires-clause-on c = still-watching c.requires.on.0 c.loop-at.search c.args.pass.now.seat.me.0.view c.loop-at.pass.seat.me.0.view (c.loop-at.invariant.5 c.requires.on.0 c.requires.on.1)
+pub peek-word-requires-clause-watching : goal.peek-word-requires-clause-watching
+peek-word-requires-clause-watching c = still-watching c.requires.watching.0 c.loop-at.search c.args.pass.now.seat.me.0.view c.loop-at.pass.seat.me.0.view (c.loop-at.invariant.5 c.requires.watching.0 c.requires.watching.1)
 
 pub loop-at-preserved : goal.loop-at-preserved
 loop-at-preserved c = (

@@ -3,9 +3,8 @@ use Rattle.std.proofs.Common.{◌≡◌, ◌-◌}
 use Rattle.lock_core.specs.SitePasses.{Sits}
 use Rattle.lock_core.specs.Pasts.{GoesOn, IsOwnStep}
 use Rattle.vma_map.specs.Searches.{asked, page_of}
-use Rattle.seq_fault.specs.declared.view.Glance.{Glance}
-use Rattle.seq_fault.specs.declared.view.Watch.TheVariants.{On}
 use Rattle.seq_fault.specs.SeqSteps.{HasSearched}
+use Rattle.seq_fault.specs.Types.{Glance, On}
 use Rattle.seq_fault.proofs.reading.search_words.Given as goal
 
 abbrev pub invariant-loop-at : goal.invariant-loop-at

@@ -4,8 +4,8 @@ use Rattle.seq_fault.specs.SeqRuled.{V, seq_at}
 use Rattle.seq_fault.proofs.Faulting.{finds, read-measured, confirmed, seen-reading, faulted, saw-front}
 use Rattle.seq_fault.proofs.reading.validate.Goals as goal
 
-pub confirm-requires-clause-on : goal.confirm-requires-clause-on
-confirm-requires-clause-on c = (c.requires.read.moment, c.requires.read.on)
+pub confirm-requires-clause-watching : goal.confirm-requires-clause-watching
+confirm-requires-clause-watching c = (c.requires.read.moment, c.requires.read.on)
 
 pub confirm-requires-clause-measured : goal.confirm-requires-clause-measured
 confirm-requires-clause-measured c = read-measured c.args.site.now.table.shared.key c.args.read.before c.args.read.front c.args.read.reply c.args.pass.now.seat.me.0.view c.requires.read

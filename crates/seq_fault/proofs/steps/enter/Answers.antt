@@ -1,7 +1,6 @@
 use Rattle.std.proofs.Common.{◌∙◌, arith, ap, sym, length}
 use Rattle.lock_core.proofs.Sitting.{noted-on, sits-on, sits-took, some-number}
-use Rattle.lock_core.specs.declared.pass.Face.{Face}
-use Rattle.lock_core.specs.declared.view.Held.TheVariants.{Alone}
+use Rattle.seq_fault.specs.Types.{Face, Alone}
 use Rattle.seq_fault.proofs.Having.{has-sequence}
 use Rattle.seq_fault.proofs.Stepping.{enters}
 use Rattle.seq_fault.proofs.steps.enter.Goals as goal

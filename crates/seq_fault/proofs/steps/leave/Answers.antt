@@ -1,6 +1,5 @@
 use Rattle.std.proofs.Common.{◌∙◌, ap, sym, length}
-use Rattle.lock_core.specs.declared.pass.Face.{Face}
-use Rattle.lock_core.specs.declared.view.Held.TheVariants.{No}
+use Rattle.seq_fault.specs.Types.{Face, No}
 use Rattle.seq_fault.proofs.Having.{has-sequence}
 use Rattle.seq_fault.proofs.Stepping.{leaves}
 use Rattle.lock_core.proofs.Sitting.{noted-on, sits-released}

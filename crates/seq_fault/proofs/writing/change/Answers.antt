@@ -1,13 +1,12 @@
 -- The copy is in the state after the log, and the words that are written back store the next one.
 use Rattle.std.proofs.Common.{◌≡◌, ◌∙◌, ◌+◌, ◌++◌, [], ◌∷◌, ℕ, Option, Some, None, length, ap, sym, subst}
 use Rattle.std.specs.Prelude.{slice_get}
-use Rattle.word_bits.specs.declared.entry.Entry.{Entry}
 use Rattle.word_bits.specs.Histories.{state_after}
 use Rattle.word_bits.proofs.States.{IsLawful, state_is_state}
-use Rattle.lock_core.specs.declared.view.Hand.{Hand}
 use Rattle.lock_core.specs.Records.{row}
 use Rattle.lock_core.proofs.Recording.{next-is}
 use Rattle.seq_fault.specs.SeqRuled.{V}
+use Rattle.seq_fault.specs.Types.{Entry, Hand}
 use Rattle.seq_fault.proofs.writing.change.Given as given
 use Rattle.seq_fault.proofs.writing.change.Goals as goal
 

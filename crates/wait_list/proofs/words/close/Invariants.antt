@@ -1,5 +1,5 @@
-use Rattle.wait_list.specs.declared.view.Change.TheVariants.{Stay}
 use Rattle.wait_list.specs.Lists.{ending}
+use Rattle.wait_list.specs.Types.{Stay}
 use Rattle.wait_list.proofs.words.close.Given as goal
 
 abbrev pub ghosts-store : goal.ghosts-store

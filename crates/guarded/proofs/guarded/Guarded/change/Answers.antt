@@ -2,6 +2,7 @@
 use Rattle.std.proofs.Common.{refl}
 use Rattle.word_bits.specs.Histories.{state_after}
 use Rattle.guarded.proofs.Serving.{change-kept, may-commit}
+use Rattle.guarded.proofs.Passing.{spun-goes-on}
 use Rattle.guarded.proofs.guarded.Guarded.change.Goals as goal
 
 pub commit-requires-clause-change : goal.commit-requires-clause-change
@@ -22,3 +23,6 @@ returns-clause-kept g c =
     let words = o.stores (o.meaning (state_after o k v.hand.log) c.args.next.call).0 in
     let u = g.L.SiteLock.view c.commit.new.pass in
     change-kept v m words c.change-reply.ensures.stored u c.change-reply.result c.commit.ensures.kept
+
+pub returns-clause-queue : goal.returns-clause-queue
+returns-clause-queue g c = λ p t. spun-goes-on g.L.SleepLock.spun g.L.SiteLock.with_seat g.met.L.SleepLock.leaves c.change-reply.new.pass c.commit.new.pass _ c.commit.ensures.beside p (c.change-reply.ensures.queue p t)

@@ -1,5 +1,5 @@
 use Rattle.std.proofs.Common.{slice_get, ap, ◌∙◌, arith}
-use Rattle.lock_core.specs.declared.view.Hand.{Hand}
+use Rattle.guarded.specs.Types.{Hand}
 use Rattle.guarded.proofs.Passing.{looks-trans, spun-goes-on}
 use Rattle.lock_core.specs.Kinds.{unavailable}
 use Rattle.guarded.proofs.Unavailable.{chronicles-so}

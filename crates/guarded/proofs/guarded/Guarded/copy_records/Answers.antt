@@ -1,10 +1,10 @@
 use Rattle.std.proofs.Common.{◌≡◌, List, ◌+◌, ◌++◌, ◌∷◌, [], length, refl, sym, ap, ◌∙◌, subst, arith, length-append}
 use Rattle.word_bits.specs.Snapshots.{Words}
-use Rattle.lock_core.specs.declared.view.Hand.{Hand}
 use Rattle.lock_core.specs.Plans.{start}
 use Rattle.lock_core.specs.Records.{row}
 use Rattle.lock_core.proofs.Reading.{start-next, start-most}
 use Rattle.guarded.specs.ObjectCopying.{AreTaskWords, joined}
+use Rattle.guarded.specs.Types.{Hand}
 use Rattle.guarded.proofs.Passing.{looks-trans}
 use Rattle.guarded.proofs.Copied.{rows-none, rows-more, joined-snoc, recs-pushed}
 use Rattle.guarded.proofs.guarded.Guarded.copy_records.Goals as goal

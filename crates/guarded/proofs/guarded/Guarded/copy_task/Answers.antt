@@ -1,5 +1,5 @@
 use Rattle.std.proofs.Common.{◌++◌, ◌∷◌, [], sym, subst, append_assoc}
-use Rattle.lock_core.specs.declared.view.Hand.{Hand}
+use Rattle.guarded.specs.Types.{Hand}
 use Rattle.lock_core.specs.Layout.{record_place}
 use Rattle.lock_core.specs.Views.{Knows}
 use Rattle.guarded.proofs.Passing.{looks-trans, spun-goes-on}

@@ -3,6 +3,7 @@ use Rattle.word_bits.proofs.States.{IsLawful}
 use Rattle.guarded.proofs.Chained.{one-more}
 use Rattle.guarded.proofs.Planned.{signal-there, is-either}
 use Rattle.guarded.proofs.Recording.{performs-looked}
+use Rattle.guarded.proofs.Passing.{spun-goes-on}
 use Rattle.guarded.proofs.guarded.Guarded.perform.Given as given
 use Rattle.guarded.proofs.guarded.Guarded.perform.Goals as goal
 
@@ -54,3 +55,9 @@ pub unreachable-requires-in-None-None : goal.unreachable-requires-in-None-None
 unreachable-requires-in-None-None g c =
     let planned = c.call-words.ensures.planned (g.met.L.SleepLock.planned c.args.self.now.lock c.args.pass.now c.requires.own) in
     is-either g.O.Object.object c.call-words.result planned (sym c.signal.ensures ∙ c.in-None-None.is-0) (sym c.call_of.ensures ∙ c.in-None-None.is-1)
+
+pub returns-in-Some-default-clause-queue : goal.returns-in-Some-default-clause-queue
+returns-in-Some-default-clause-queue g c = λ p t. c.send.ensures.queue p (spun-goes-on g.L.SleepLock.spun g.L.SiteLock.with_seat g.met.L.SleepLock.leaves c.args.pass.now c.call-words.new.pass _ c.call-words.ensures.beside p t)
+
+pub returns-in-None-Some-clause-queue : goal.returns-in-None-Some-clause-queue
+returns-in-None-Some-clause-queue g c = λ p t. c.perform_known.ensures.queue p (spun-goes-on g.L.SleepLock.spun g.L.SiteLock.with_seat g.met.L.SleepLock.leaves c.args.pass.now c.call-words.new.pass _ c.call-words.ensures.beside p t)

@@ -22,6 +22,7 @@ loop-call-init g c = (
   c.requires.sent,
   c.requires.consumed,
   ([], none-done g.O.Object.object (unavailable g.L.SleepLock.kind) (g.L.SiteLock.calls_on c.args.self.now.lock) (g.L.SiteLock.view c.args.pass.now).hand c.args.task c.requires.none_done c.requires.none_seen),
+  (λ p t. t),
 )
 
 pub loop-call-preserved : goal.loop-call-preserved
@@ -37,6 +38,7 @@ loop-call-preserved g c =
       p.accounted.0,
       p.accounted.1,
       (done.0 ++ p.rec ∷ [], one-more g.O.Object.object (lawful g) g.L.SleepLock.kind g.L.SleepLock.word_at (g.L.SiteLock.calls_on c.args.self.now.lock) c.args.task c.loop-call.call c.perform.result done.0 v u c.loop-call.invariant.2 p done.1),
+      (λ q t. c.perform.ensures.queue q (c.loop-call.invariant.7 q t)),
     )
 
 pub perform-requires-clause-there : goal.perform-requires-clause-there

@@ -1,9 +1,9 @@
 use Rattle.std.proofs.Common.{◌≡◌, List, Some, None}
-use Rattle.word_bits.specs.declared.rec.Rec.{Rec}
-use Rattle.lock_core.specs.declared.view.Held.TheVariants.{No}
 use Rattle.lock_core.specs.Kinds.{unavailable}
+use Rattle.lock_core.specs.Pasts.{GoesOn}
 use Rattle.lock_core.specs.Shown.{PastGoesOn}
 use Rattle.guarded.specs.Gathering.{HasDoneSoFar}
+use Rattle.guarded.specs.Types.{Rec, No}
 use Rattle.guarded.proofs.guarded.Guarded.perform_all.Given as goal
 
 abbrev pub invariant-loop-call : goal.invariant-loop-call
@@ -15,3 +15,4 @@ invariant-loop-call g l =
     × ((g.L.SiteLock.view l.pass).hand.sent ≡ None)
     × ((g.L.SiteLock.view l.pass).hand.consumed ≡ 0)
     × ((rs : List Rec) × HasDoneSoFar g.O.Object.object (unavailable g.L.SleepLock.kind) (g.L.SiteLock.calls_on l.self.lock) (g.L.SiteLock.view l.pass).hand l.task l.call rs)
+    × GoesOn (g.L.SleepLock.spun l.fn.pass) (g.L.SleepLock.spun l.pass)

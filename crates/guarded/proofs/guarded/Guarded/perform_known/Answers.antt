@@ -4,6 +4,7 @@ use Rattle.lock_core.specs.Locking.{held_by}
 use Rattle.lock_core.specs.Views.{next_entry}
 use Rattle.guarded.proofs.Recording.{performs-served, performs-refused, refused-note, refused-unsent}
 use Rattle.guarded.proofs.Unavailable.{may-note-so}
+use Rattle.guarded.proofs.Passing.{spun-goes-on}
 use Rattle.guarded.proofs.guarded.Guarded.perform_known.Goals as goal
 
 pub note-requires-clause-unsent : goal.note-requires-clause-unsent
@@ -48,3 +49,6 @@ returns-else-reads-clause-performs g c =
     performs-served g.O.Object.object g.L.SleepLock.kind g.L.SleepLock.word_at (g.L.SiteLock.calls_on c.args.self.now.lock) v m u c.args.next.words c.args.next.call c.reads-reads.result c.serve_change.result (held_by g.L.SleepLock.kind c.reads-reads.result)
     next.planned next.is c.reads-reads.ensures c.requires.no_signal (c.requires.sent, c.requires.consumed) got.took (λ tries. c.enter.ensures.at_once (c.mode.ensures ∙ tries)) (λ waits. got.line (λ tries. waits (sym c.mode.ensures ∙ tries))) c.serve_change.ensures.served c.serve_change.ensures.on.goes_on
     got.counted
+
+pub returns-in-Err-clause-queue : goal.returns-in-Err-clause-queue
+returns-in-Err-clause-queue g c = λ p t. spun-goes-on g.L.SleepLock.spun g.L.SiteLock.with_seat g.met.L.SleepLock.leaves c.enter.new.pass c.note.new.pass _ c.note.ensures.beside p (c.enter.ensures.queue p t)

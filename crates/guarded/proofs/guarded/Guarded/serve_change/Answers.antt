@@ -1,9 +1,9 @@
 use Rattle.std.proofs.Common.{refl, sym, subst}
 use Rattle.word_bits.specs.Histories.{state_after}
 use Rattle.word_bits.proofs.States.{IsLawful, state_is_state}
-use Rattle.word_bits.specs.declared.reply.Reply.{Reply}
 use Rattle.lock_core.specs.Kinds.{wakes_alone}
 use Rattle.guarded.specs.Performing.{Serves, no_word}
+use Rattle.guarded.specs.Types.{Reply}
 use Rattle.guarded.proofs.Recording.{serves-change}
 use Rattle.guarded.proofs.Serving.{is-object, still-stored, state-changed}
 use Rattle.guarded.proofs.guarded.Guarded.serve_change.Given as given

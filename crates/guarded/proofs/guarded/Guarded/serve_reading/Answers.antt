@@ -6,6 +6,7 @@ use Rattle.lock_core.specs.Kinds.{unavailable}
 use Rattle.lock_core.specs.Views.{next_entry}
 use Rattle.guarded.proofs.Serving.{is-object}
 use Rattle.guarded.proofs.Unavailable.{may-note-so}
+use Rattle.guarded.proofs.Passing.{spun-goes-on}
 use Rattle.guarded.proofs.guarded.Guarded.serve_reading.Given as given
 use Rattle.guarded.proofs.guarded.Guarded.serve_reading.Goals as goal
 
@@ -46,3 +47,6 @@ returns-clause-served g c =
     let replies = c.look-reply.ensures.read c.requires.reads in
     serves-looked o g.L.SleepLock.kind k v w m u c.args.next.words c.args.next.call c.look-reply.result c.requires.next.is c.requires.reads (is-object o (lawful g) k v.hand.log c.args.next.words c.args.next.call c.requires.next.is c.look-reply.result replies) replies
     c.look-reply.ensures.kept c.note.ensures.kept c.release_shared.ensures.released
+
+pub returns-clause-queue : goal.returns-clause-queue
+returns-clause-queue g c = λ p t. c.release_shared.ensures.queue p (spun-goes-on g.L.SleepLock.spun g.L.SiteLock.with_seat g.met.L.SleepLock.leaves c.look-reply.new.pass c.note.new.pass _ c.note.ensures.beside p (c.look-reply.ensures.queue p t))

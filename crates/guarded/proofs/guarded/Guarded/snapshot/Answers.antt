@@ -1,11 +1,9 @@
 use Rattle.std.proofs.Common.{◌≡◌, arith, List, length, map, sym, ap, ◌∙◌, subst}
-use Rattle.word_bits.specs.declared.entry.Entry.{Entry}
+use Rattle.guarded.specs.Types.{Entry, Hand, Told}
 use Rattle.word_bits.specs.EntryWord.{entry_word}
 use Rattle.word_bits.specs.Snapshots.{Words}
 use Rattle.word_bits.specs.Histories.{state_after}
 use Rattle.word_bits.proofs.States.{IsLawful}
-use Rattle.lock_core.specs.declared.view.Hand.{Hand}
-use Rattle.lock_core.specs.declared.view.Told.{Told}
 use Rattle.lock_core.specs.Chronicles.{Chronicles}
 use Rattle.lock_core.specs.Kinds.{unavailable}
 use Rattle.guarded.proofs.Copied.{held-alone, rows-wider}

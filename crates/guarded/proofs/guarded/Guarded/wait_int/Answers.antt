@@ -1,9 +1,9 @@
 use Rattle.std.proofs.Common.{◌∙◌, Bool, true, false, refl, sym, subst}
-use Rattle.word_bits.specs.declared.call.Mode.TheVariants.{Int}
+use Rattle.lock_core.specs.Pasts.{GoesOn}
 use Rattle.lock_core.specs.Shown.{StepsOn}
 use Rattle.guarded.specs.Performing.{Refuses, TalliesCall}
+use Rattle.guarded.specs.Types.{Int, Intr}
 use Rattle.guarded.proofs.Recording.{tallies-ok, tallies-err}
-use Rattle.word_bits.specs.declared.reply.Reply.TheVariants.{Intr}
 use Rattle.guarded.proofs.guarded.Guarded.wait_int.Goals.{then-reads, else-reads}
 use Rattle.guarded.proofs.guarded.Guarded.wait_int.Goals as goal
 
@@ -49,4 +49,16 @@ returns-in-Err-clause-refused g c = elim c.if-reads.branch [
       subst (λ p. Refuses g.L.SleepLock.kind g.L.SleepLock.word_at Int c.args.reads Intr v (g.L.SiteLock.view p)) (sym w.pass-is)
       (subst (λ (b : Bool). Refuses g.L.SleepLock.kind g.L.SleepLock.word_at Int b Intr v u) (sym w.if-reads.false)
       (refl, (c.in-Err.field-0, both.0), both.1))
+]
+
+pub returns-in-Ok-clause-queue : goal.returns-in-Ok-clause-queue
+returns-in-Ok-clause-queue g c = elim c.if-reads.branch [
+  | then-reads w ↦ subst (λ p. GoesOn (g.L.SleepLock.spun c.args.pass.now) (g.L.SleepLock.spun p)) (sym w.pass-is) w.shared_int-got.ensures.queue
+  | else-reads w ↦ subst (λ p. GoesOn (g.L.SleepLock.spun c.args.pass.now) (g.L.SleepLock.spun p)) (sym w.pass-is) w.alone_int-got.ensures.queue
+]
+
+pub returns-in-Err-clause-queue : goal.returns-in-Err-clause-queue
+returns-in-Err-clause-queue g c = elim c.if-reads.branch [
+  | then-reads w ↦ subst (λ p. GoesOn (g.L.SleepLock.spun c.args.pass.now) (g.L.SleepLock.spun p)) (sym w.pass-is) w.shared_int-got.ensures.queue
+  | else-reads w ↦ subst (λ p. GoesOn (g.L.SleepLock.spun c.args.pass.now) (g.L.SleepLock.spun p)) (sym w.pass-is) w.alone_int-got.ensures.queue
 ]

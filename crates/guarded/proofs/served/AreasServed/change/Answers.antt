@@ -25,7 +25,10 @@ apply-requires-clause-has g c =
     (c.requires.own, c.requires.held, found.0)
 
 pub returns-clause-on : goal.returns-clause-on
-returns-clause-on g c = record { own = c.apply.ensures.has.0; goes_on = c.apply.ensures.kept.0 }
+returns-clause-on g c = record { own = c.apply.ensures.has.0; goes_on = c.apply.ensures.kept.0.0 }
+
+pub returns-clause-queue : goal.returns-clause-queue
+returns-clause-queue g c = c.apply.ensures.kept.1
 
 pub returns-clause-stored : goal.returns-clause-stored
 returns-clause-stored g c =
@@ -39,7 +42,7 @@ returns-clause-stored g c =
     let after = c.apply.ensures.has.2 in
     let next = c.apply.ensures.next ∙ ap (λ (n : PageMap). (meaning n c.args.call).0) before in
     let now : u.hand.known ≡ stores (meaning m c.args.call).0 = sym after.whole ∙ ap words_of_areas (sym (runs-page_map (areas_in u.hand.known) after.space.runs)) ∙ ap (λ (n : PageMap). words_of_areas (runs n)) next in
-    subst (λ xs. HasStored xs v u) now c.apply.ensures.kept.1
+    subst (λ xs. HasStored xs v u) now c.apply.ensures.kept.0.1
 
 pub returns-clause-reply : goal.returns-clause-reply
 returns-clause-reply g c =

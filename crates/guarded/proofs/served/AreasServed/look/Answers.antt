@@ -8,9 +8,8 @@ use Rattle.vma_map.specs.Spaces.{space, meaning}
 use Rattle.vma_map.specs.Laws.Space.{IsSpace-runs, starts, called, goes_on, replies}
 use Rattle.guarded.specs.Splicing.{areas_in}
 use Rattle.guarded.proofs.Spliced.{have-areas}
-use Rattle.word_bits.specs.declared.reply.Reply.TheVariants.{Num}
-use Rattle.vma_map.specs.declared.call.SpaceCall.{SpaceCall}
 use Rattle.guarded.specs.CallServing.{readable_from}
+use Rattle.guarded.specs.Types.{Num, SpaceCall}
 use Rattle.guarded.proofs.Counting.{populate-counts}
 use Rattle.guarded.proofs.served.AreasServed.look.Goals as goal
 

@@ -4,8 +4,8 @@ use Rattle.word_bits.specs.Histories.{state_after}
 use Rattle.word_bits.proofs.States.{IsLawful, state_is_state}
 use Rattle.fd_table.specs.Tables.{table, meaning, stores}
 use Rattle.fd_table.specs.Laws.Table.{starts, called, goes_on, replies}
-use Rattle.fd_table.specs.declared.call.TableCall.{TableCall}
 use Rattle.guarded.specs.Performing.{HasStored}
+use Rattle.guarded.specs.Types.{TableCall}
 use Rattle.guarded.proofs.served.FdsServed.change.Goals as goal
 
 lawful : IsLawful table

@@ -3,7 +3,7 @@ use Rattle.word_bits.specs.Histories.{state_after}
 use Rattle.word_bits.proofs.States.{IsLawful, state_is_state}
 use Rattle.fd_table.specs.Tables.{table, meaning}
 use Rattle.fd_table.specs.Laws.Table.{starts, called, goes_on, replies}
-use Rattle.fd_table.specs.declared.call.TableCall.{TableCall}
+use Rattle.guarded.specs.Types.{TableCall}
 use Rattle.guarded.proofs.served.FdsServed.look.Goals as goal
 
 lawful : IsLawful table

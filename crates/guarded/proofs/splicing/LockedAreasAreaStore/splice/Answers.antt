@@ -1,10 +1,11 @@
 -- Room is made, the pieces are written, and then their number is.
 use Rattle.std.proofs.Common.{◌≡◌, ℕ, ◌+◌, ◌-◌, List, length, slice_index, slice_set, sym, ap, subst, ◌∙◌, arith}
-use Rattle.lock_core.specs.declared.view.Hand.{Hand}
 use Rattle.vma_map.specs.Runs.{spliced}
 use Rattle.guarded.specs.CallServing.{AreZeroFrom}
 use Rattle.guarded.specs.Splicing.{MakeRoom, areas_in}
 use Rattle.guarded.specs.Laws.Splicing.{changes-more}
+use Rattle.guarded.specs.Types.{Hand}
+use Rattle.guarded.proofs.Passing.{spun-goes-on}
 use Rattle.guarded.proofs.Spliced.{number-of, long-of, zeros-of, length-of, pieces-runs, spliced-stored, have-areas}
 use Rattle.guarded.proofs.Written.{looked, wrote-word, still-alone, same-known}
 use Rattle.guarded.proofs.splicing.LockedAreasAreaStore.splice.Goals as goal
@@ -193,8 +194,10 @@ returns-clause-kept g c =
     let number : c.word-len.result ≡ length areas = c.word-len.ensures.value ∙ number-of v.hand.known has in
     let f = g.L.SiteLock.view c.fit.new.pass in
     let p = g.L.SiteLock.view c.write_pieces.new.pass in
-    let u = g.L.SiteLock.view c.set_word.new.pass in
-    changes-more v r u (looked v r c.word-len.ensures.on.goes_on c.word-len.ensures.kept) (changes-more r f u c.fit.ensures.kept (changes-more f p u c.write_pieces.ensures.kept (wrote-word p u 0 _ c.set_word.ensures.on.goes_on c.set_word.ensures.kept)))
+    let u = g.L.SiteLock.view c.set_word.new.pass in (
+      changes-more v r u (looked v r c.word-len.ensures.on.goes_on c.word-len.ensures.kept) (changes-more r f u c.fit.ensures.kept (changes-more f p u c.write_pieces.ensures.kept (wrote-word p u 0 _ c.set_word.ensures.on.goes_on c.set_word.ensures.kept))),
+      (λ q t. spun-goes-on g.L.SleepLock.spun g.L.SiteLock.with_seat g.met.L.SleepLock.leaves c.write_pieces.new.pass c.set_word.new.pass _ c.set_word.ensures.beside q (c.write_pieces.ensures.queue q (c.fit.ensures.queue q (spun-goes-on g.L.SleepLock.spun g.L.SiteLock.with_seat g.met.L.SleepLock.leaves c.args.hand.now c.word-len.new.pass _ c.word-len.ensures.beside q t)))),
+    )
 
 pub returns-clause-areas : goal.returns-clause-areas
 returns-clause-areas g c =

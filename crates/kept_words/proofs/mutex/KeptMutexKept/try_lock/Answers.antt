@@ -1,14 +1,13 @@
 use Rattle.std.proofs.Common.{◌∙◌, ap, subst, sym, true}
 use Rattle.std.specs.Arc.{arc_value}
 use Rattle.std.proofs.lemmas.Bool.{false≢true}
-use Rattle.lock_core.specs.declared.view.Held.TheVariants.{Alone}
-use Rattle.mutex_slow.specs.declared.calls.Mutex.{Mutex}
 use Rattle.mutex_slow.specs.MutexHandles.{plan_of, shown_of, SitsAt}
 use Rattle.kept_words.specs.declared.mutex.SharedMutex.{SharedMutex}
 use Rattle.kept_words.specs.Laws.Keeping.{finds-kept, missed, taken}
 use Rattle.kept_words.proofs.mutex.KeptMutexKept.try_lock.Goals.{in-Ok, in-Err}
 use Rattle.lock_core.specs.Pasts.{Tail}
 use Rattle.kept_words.specs.Keeping.{TaskView}
+use Rattle.kept_words.specs.Types.{Alone, Mutex}
 use Rattle.kept_words.proofs.mutex.KeptMutexKept.try_lock.Goals as goal
 
 pub invariant_of-self : goal.invariant_of-self

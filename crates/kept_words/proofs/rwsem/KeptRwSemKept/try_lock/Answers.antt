@@ -1,13 +1,13 @@
 use Rattle.std.proofs.Common.{◌∙◌, ap, sym, subst}
 use Rattle.std.specs.Arc.{arc_value}
 use Rattle.std.proofs.lemmas.Bool.{false≢true}
-use Rattle.lock_core.specs.declared.view.Held.TheVariants.{Alone}
 use Rattle.rwsem_slow.specs.RwSemHandles.{plan_of, shown_of, SitsAt}
 use Rattle.kept_words.specs.declared.rwsem.SharedSem.{SharedSem}
 use Rattle.kept_words.specs.Laws.Keeping.{finds-kept}
 use Rattle.kept_words.proofs.rwsem.KeptRwSemKept.try_lock.Goals.{in-Ok, in-Err}
 use Rattle.lock_core.specs.Pasts.{Tail}
 use Rattle.kept_words.specs.Keeping.{TaskView}
+use Rattle.kept_words.specs.Types.{Alone}
 use Rattle.kept_words.proofs.rwsem.KeptRwSemKept.try_lock.Goals as goal
 
 pub returns-clause-keeps : goal.returns-clause-keeps

@@ -1,11 +1,11 @@
 use Rattle.std.proofs.Common.{ap, subst, sym}
 use Rattle.std.specs.Arc.{arc_value}
-use Rattle.lock_core.specs.declared.view.Held.TheVariants.{Shared}
 use Rattle.rwsem_slow.specs.RwSemHandles.{plan_of, shown_of, SitsAt}
 use Rattle.kept_words.specs.declared.rwsem.SharedSem.{SharedSem}
 use Rattle.kept_words.specs.Laws.Keeping.{finds-kept}
 use Rattle.lock_core.specs.Pasts.{Tail}
 use Rattle.kept_words.specs.Keeping.{TaskView}
+use Rattle.kept_words.specs.Types.{Shared}
 use Rattle.kept_words.proofs.rwsem.KeptRwSemKeptShared.lock_shared.Goals as goal
 
 pub returns-clause-keeps : goal.returns-clause-keeps

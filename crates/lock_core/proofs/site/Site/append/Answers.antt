@@ -1,8 +1,8 @@
 use Rattle.std.proofs.Common.{◌≡◌, ℕ, ◌+◌, set, ap, sym, subst}
-use Rattle.word_bits.specs.declared.entry.Entry.{Entry}
 use Rattle.lock_core.specs.Layout.{lay}
 use Rattle.lock_core.specs.Views.{logged, entry_in}
 use Rattle.lock_core.specs.Sites.{SiteKept, SiteStep}
+use Rattle.lock_core.specs.Types.{Entry}
 use Rattle.lock_core.proofs.WordLaws.{logs-there}
 use Rattle.lock_core.proofs.site.Site.append.Goals as goal
 use Rattle.lock_core.specs.declared.layout.TheConstants.{LENGTH_AT}

@@ -1,5 +1,5 @@
 use Rattle.std.proofs.Common.{◌≡◌, ◌+◌, refl, ap, ◌∙◌, arith}
-use Rattle.lock_core.specs.declared.view.View.{View}
+use Rattle.lock_core.specs.Types.{View}
 use Rattle.lock_core.specs.Views.{handed, consuming}
 use Rattle.lock_core.proofs.Within.{found-since-within}
 use Rattle.lock_core.proofs.site.Site.consume.Goals as goal

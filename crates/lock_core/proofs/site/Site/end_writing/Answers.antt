@@ -1,9 +1,9 @@
 use Rattle.std.proofs.Common.{◌≡◌, ℕ, length, inl, refl, sym, ap, subst, ◌∙◌, arith}
-use Rattle.lock_core.specs.declared.view.Hand.{Hand}
 use Rattle.lock_core.specs.Stores.{IsStoredAt}
 use Rattle.lock_core.specs.Layout.{lay}
 use Rattle.lock_core.specs.Views.{quieted, handed}
 use Rattle.lock_core.specs.SitePasses.{Quiets}
+use Rattle.lock_core.specs.Types.{Hand}
 use Rattle.lock_core.specs.declared.layout.TheConstants.{LOCK_WORDS}
 use Rattle.lock_core.proofs.Sitting.{sits-same}
 use Rattle.lock_core.proofs.SiteLaws.{heeds}

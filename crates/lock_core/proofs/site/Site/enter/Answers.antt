@@ -1,9 +1,9 @@
 use Rattle.std.proofs.Common.{◌≡◌, ℕ, ◌+◌, set, ap, sym, subst, ◌∙◌}
-use Rattle.word_bits.specs.declared.entry.Entry.{Entry}
 use Rattle.word_bits.specs.EntryWord.{entry_word}
 use Rattle.lock_core.specs.Layout.{lay}
 use Rattle.lock_core.specs.Views.{entered, entry_of}
 use Rattle.lock_core.specs.Sites.{SiteKept, SiteStep}
+use Rattle.lock_core.specs.Types.{Entry}
 use Rattle.lock_core.proofs.Replies.{entry_of-word}
 use Rattle.lock_core.proofs.WordLaws.{enters-there}
 use Rattle.lock_core.proofs.site.Site.enter.Goals as goal

@@ -1,8 +1,8 @@
 use Rattle.std.proofs.Common.{◌≡◌, ap, sym, subst, ◌∙◌, arith}
-use Rattle.word_bits.specs.declared.entry.Entry.{Entry}
 use Rattle.lock_core.specs.Records.{row}
 use Rattle.lock_core.specs.Views.{with_record}
 use Rattle.lock_core.specs.SitePasses.{IsSeenReading}
+use Rattle.lock_core.specs.Types.{Entry}
 use Rattle.lock_core.proofs.RowLaws.{some-inside, start-below}
 use Rattle.lock_core.proofs.Replies.{settled-object}
 use Rattle.lock_core.proofs.Recording.{next-is, seen-may, seen-object}

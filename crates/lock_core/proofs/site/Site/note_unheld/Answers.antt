@@ -1,7 +1,7 @@
 use Rattle.std.proofs.Common.{◌≡◌, ap, sym, subst, ◌∙◌, arith}
-use Rattle.word_bits.specs.declared.entry.Entry.{Entry}
 use Rattle.lock_core.specs.Records.{row}
 use Rattle.lock_core.specs.SitePasses.{MayNote}
+use Rattle.lock_core.specs.Types.{Entry}
 use Rattle.lock_core.proofs.RowLaws.{some-inside, start-below}
 use Rattle.lock_core.proofs.Recording.{next-is, unheld-may, unheld-noted, unheld-planned}
 use Rattle.lock_core.proofs.site.Site.note_unheld.Goals as goal

@@ -1,9 +1,8 @@
 use Rattle.std.proofs.Common.{◌≡◌, ◌+◌, ◌*◌, ℕ, refl, sym, ap, ◌∙◌, subst, arith}
-use Rattle.lock_core.specs.declared.view.Hand.{Hand}
-use Rattle.lock_core.specs.declared.view.View.{View}
 use Rattle.lock_core.specs.Views.{handed, hearing}
 use Rattle.lock_core.specs.SiteHandles.{SawSignals}
 use Rattle.lock_core.specs.Laws.SiteRun.{found-at-step}
+use Rattle.lock_core.specs.Types.{Hand, View}
 use Rattle.lock_core.proofs.Sitting.{SameFace, sits-same}
 use Rattle.lock_core.proofs.HandLaws.{same-number}
 use Rattle.lock_core.proofs.Hearing.{hears-both}

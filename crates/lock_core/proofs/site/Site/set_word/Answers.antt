@@ -1,5 +1,5 @@
 use Rattle.std.proofs.Common.{arith, ◌≡◌, ap, sym, ◌∙◌}
-use Rattle.lock_core.specs.declared.view.Hand.{Hand}
+use Rattle.lock_core.specs.Types.{Hand}
 use Rattle.lock_core.specs.Views.{wrote}
 use Rattle.lock_core.proofs.Sitting.{sits-same}
 use Rattle.lock_core.proofs.WordLaws.{writes-there}

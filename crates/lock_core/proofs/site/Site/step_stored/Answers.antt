@@ -2,8 +2,8 @@ use Rattle.std.proofs.Common.{arith}
 use mathlib.Core.Option.{none}
 use Rattle.atomic_table.specs.Table.{step}
 use Rattle.lock_core.specs.Ops.{first_of, second_of, told_by}
-use Rattle.lock_core.specs.declared.op.Op.TheVariants.{Load, Store, Swap, Add, Sub, Or, And, Exchange}
 use Rattle.lock_core.specs.Pasts.{unseen, opening}
+use Rattle.lock_core.specs.Types.{Load, Store, Swap, Add, Sub, Or, And, Exchange}
 use Rattle.lock_core.proofs.Steps.{with-op}
 use Rattle.lock_core.proofs.Storing.{allows-at, allows-found-at, stored-inside}
 use Rattle.lock_core.proofs.site.Site.step_stored.Goals as goal

@@ -1,9 +1,9 @@
 use Rattle.std.proofs.Common.{◌≡◌, ℕ, ◌+◌, inl, set, sym, ap, subst, arith}
-use Rattle.lock_core.specs.declared.view.Hand.{Hand}
 use Rattle.lock_core.specs.Plans.{start}
 use Rattle.lock_core.specs.Layout.{lay, recs_at}
 use Rattle.lock_core.specs.Records.{row}
 use Rattle.lock_core.specs.Sites.{SiteKept, SiteStep}
+use Rattle.lock_core.specs.Types.{Hand}
 use Rattle.lock_core.proofs.RowLaws.{some-inside, row-task}
 use Rattle.lock_core.proofs.WordLaws.{records-there}
 use Rattle.lock_core.proofs.site.Site.store_record.Goals as goal

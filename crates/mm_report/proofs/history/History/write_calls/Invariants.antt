@@ -1,10 +1,10 @@
 use Rattle.std.proofs.Common.{◌≡◌, ◌+◌, ℕ, List}
 use Rattle.std.specs.Prelude.{flat_map}
-use Rattle.word_bits.specs.declared.rec.Rec.{Rec}
 use Rattle.word_bits.specs.Histories.{Event}
 use Rattle.mm_report.specs.Text.{task_event_text}
 use Rattle.mm_report.specs.Merged.{front, behind}
 use Rattle.mm_report.specs.Cursors.{HasRecords, IsAt, calls_before}
+use Rattle.mm_report.specs.Types.{Rec}
 use Rattle.mm_report.proofs.Remaining.{Remains}
 use Rattle.mm_report.proofs.Calls.{front_text, rest_behind}
 use Rattle.mm_report.proofs.history.History.write_calls.Given as goal

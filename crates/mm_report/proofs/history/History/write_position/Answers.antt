@@ -4,13 +4,12 @@ use Rattle.std.proofs.lemmas.Bool.Decides.{nat_tests}
 use Rattle.std.proofs.lemmas.List.{length-set}
 use Rattle.std.proofs.lemmas.Option.{slice_get_within}
 use Rattle.std.proofs.lemmas.Result.{err_from_is_err_and}
-use Rattle.word_bits.specs.declared.rec.Rec.{Rec}
 use Rattle.word_bits.specs.Histories.{Records, Event}
-use Rattle.task_script.specs.declared.script.Line.{Line}
 use Rattle.byte_streams.proofs.Pieces.{pieces_begin, piece_added, piece_failed, pieces_done}
 use Rattle.mm_report.specs.Text.{event_text}
 use Rattle.mm_report.specs.Merged.{front, behind}
 use Rattle.mm_report.specs.Cursors.{AreRead, AreAt, IsAt, no_cursor, first_record}
+use Rattle.mm_report.specs.Types.{Rec, Line}
 use Rattle.task_script.proofs.Mapped.{at_place}
 use Rattle.mm_report.proofs.Tasks.{task_read, task_has, one_further, text_of_texts}
 use Rattle.mm_report.proofs.Reserved.{unmapped_at}

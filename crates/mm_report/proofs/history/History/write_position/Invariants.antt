@@ -1,12 +1,11 @@
 use Rattle.std.proofs.Common.{◌≡◌, ◌++◌, ℕ, List, length, take, get_or, cond, nat_lt, Some}
 use Rattle.std.specs.Prelude.{flat_map, slice_get}
-use Rattle.word_bits.specs.declared.rec.Rec.{Rec}
 use Rattle.word_bits.specs.Histories.{Records, Event}
-use Rattle.task_script.specs.declared.script.Line.{Line}
 use Rattle.byte_streams.specs.Causes.{IsOnItsWay}
 use Rattle.mm_report.specs.Text.{event_text}
 use Rattle.mm_report.specs.Merged.{front, behind}
 use Rattle.mm_report.specs.Cursors.{AreRead, AreAt, IsAt, no_cursor, first_record}
+use Rattle.mm_report.specs.Types.{Rec, Line}
 use Rattle.mm_report.proofs.history.History.write_position.Given as goal
 
 abbrev pub invariant-loop-task : goal.invariant-loop-task

@@ -1,5 +1,5 @@
 use Rattle.std.proofs.Common.{List, slice_get, ap}
-use Rattle.lock_core.specs.declared.view.Past.{Past}
+use Rattle.mutex_slow.specs.Types.{Past}
 use Rattle.lock_core.specs.SiteHandles.{past_of}
 use Rattle.mutex_slow.proofs.calls.Mutex.gather.Goals as goal
 

@@ -1,6 +1,5 @@
 use Rattle.std.proofs.Common.{◌≡◌, arith, ap, refl, subst, sym, ◌∙◌, ◌+◌, ℕ, Bool}
 use Rattle.std.specs.Prelude.{Ok}
-use Rattle.lock_core.specs.declared.how.Interrupted.{Interrupted}
 use Rattle.lock_core.specs.Kinds.{mutex}
 use Rattle.lock_core.specs.Locking.{Interrupts}
 use Rattle.osq_nodes.specs.OsqHandles.{fronts_in, swaps_in}
@@ -9,9 +8,8 @@ use Rattle.mutex_slow.specs.MutexHandles.{shown_of}
 use Rattle.cpu_task.specs.CpuCounting.{SleepsInTurns}
 use Rattle.mutex_slow.specs.MutexPlaces.{seen_of}
 use Rattle.lock_core.proofs.Within.{err-map, interrupts-fronts, tallies-answer, tried-fronts, tried-interrupts, tried-then}
-use Rattle.lock_core.specs.declared.how.How.{How}
-use Rattle.lock_core.specs.declared.how.How.TheVariants.{Spun}
 use Rattle.mutex_slow.specs.MutexPlaces.{CountsBy, CountsInLine, GotInLine, TakesOpen}
+use Rattle.mutex_slow.specs.Types.{Interrupted, How, Spun}
 use Rattle.cpu_task.proofs.SleepCounts.{dozes-none, dozes-within, rises-on}
 use Rattle.mutex_slow.proofs.Opening.{counts-in-line, ok-both, ok-map, opens-within}
 use Rattle.mutex_slow.proofs.calls.Mutex.lock_common.Goals as goal

@@ -1,8 +1,6 @@
 use Rattle.std.proofs.Common.{◌≡◌, ℕ, ◌*◌, ◌+◌, ◌<◌, Bool, List, sym, ap, ◌∙◌, arith}
 use Rattle.std.specs.Prelude.{Result, Ok, Err, IfErr}
 use Rattle.word_bits.specs.declared.TheConstants.{MAX_TASKS}
-use Rattle.lock_core.specs.declared.view.Moment.{Moment}
-use Rattle.lock_core.specs.declared.view.Held.TheVariants.{No}
 use Rattle.lock_core.specs.Kinds.{mutex}
 use Rattle.lock_core.specs.Locking.{Misses}
 use Rattle.lock_core.specs.Pasts.{GoesOn, FoundAt, IsOwnStep}
@@ -10,6 +8,7 @@ use Rattle.lock_core.specs.Shown.{no_line, shown}
 use Rattle.lock_core.proofs.Showing.{missed-misses}
 use Rattle.mutex_word.specs.Holders.{MissesOwner}
 use Rattle.mutex_word.specs.OwnerRuled.{V, IsPlain, owner_at}
+use Rattle.mutex_word.specs.Types.{Moment, No}
 use Rattle.mutex_word.proofs.site.OwnerSite.trylock_once.Goals as goal
 
 misses-err : (r : Result (Unit {0}) ℕ) (v u : V) (p q : List Moment) → v.hand.held ≡ No → IsOwnStep u q → GoesOn p q → IfErr r (λ word. MissesOwner v word u) → IfErr r (λ word. FoundAt owner_at word q) → IfErr r (λ word. (word < 8 * MAX_TASKS + 8) × IsPlain word)

@@ -1,8 +1,8 @@
 use Rattle.std.proofs.Common.{◌≡◌, ◌-◌, ◌∙◌, ℕ, suc, sym, ap, subst, arith}
-use Rattle.lock_core.specs.declared.pass.Face.{Face}
 use Rattle.osq_nodes.specs.OsqHandles.{FoundBy}
 use Rattle.osq_nodes.specs.Words.{tail_at}
 use Rattle.osq_nodes.specs.OsqRuled.{V}
+use Rattle.osq_nodes.specs.Types.{Face}
 use Rattle.osq_nodes.proofs.Owning.{found-by, swap-found}
 use Rattle.osq_nodes.proofs.queue.Osq.enter.Goals as goal
 

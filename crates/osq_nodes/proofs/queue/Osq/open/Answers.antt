@@ -1,6 +1,5 @@
 use Rattle.std.proofs.Common.{List, [], ◌∷◌, refl, sym, ap, ◌∙◌, subst}
 use Rattle.word_bits.specs.Histories.{Plan}
-use Rattle.lock_core.specs.declared.view.Moment.{Moment}
 use Rattle.lock_core.specs.Pasts.{opening}
 use Rattle.lock_core.specs.Records.{IsPlan}
 use Rattle.lock_core.specs.Nothings.{nothing}
@@ -8,6 +7,7 @@ use Rattle.lock_core.proofs.Planning.{empty-plan}
 use Rattle.osq_nodes.specs.OsqPlaces.{node_marks}
 use Rattle.osq_nodes.specs.OsqRuled.{idle}
 use Rattle.osq_nodes.specs.OsqStated.{HasBecome}
+use Rattle.osq_nodes.specs.Types.{Moment}
 use Rattle.osq_nodes.proofs.Chaining.{newest-queue}
 use Rattle.osq_nodes.proofs.queue.Osq.open.Goals as goal
 

@@ -1,6 +1,6 @@
 use Rattle.std.proofs.Common.{◌≢◌, ◌∙◌, ℕ, suc, inr, sym, ap, arith, subst, rules}
-use Rattle.lock_core.specs.declared.pass.Face.{Face}
 use Rattle.osq_nodes.specs.OsqRuled.{V}
+use Rattle.osq_nodes.specs.Types.{Face}
 use Rattle.osq_nodes.specs.Words.{tail_at}
 use Rattle.lock_core.specs.Pasts.{GoesOn}
 use Rattle.osq_nodes.proofs.Owning.{found-by, same-number}

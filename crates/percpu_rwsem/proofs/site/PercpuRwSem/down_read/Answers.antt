@@ -1,7 +1,7 @@
 use Rattle.std.proofs.Common.{rules, ◌∙◌, ◌+◌, ap, arith}
-use Rattle.percpu_rwsem.specs.declared.view.Phase.TheVariants.{Idle}
 use Rattle.percpu_rwsem.specs.PercpuHandles.{after}
 use Rattle.percpu_rwsem.specs.PercpuRuled.{V}
+use Rattle.percpu_rwsem.specs.Types.{Idle}
 use Rattle.percpu_rwsem.proofs.Calling.{tries-again}
 use Rattle.percpu_rwsem.proofs.site.PercpuRwSem.down_read.Goals as goal
 

@@ -1,11 +1,10 @@
 use Rattle.std.proofs.Common.{rules, ◌≡◌, ◌≢◌, ◌∙◌, ◌<◌, ◌+◌, ℕ, length, ap, sym, refl, subst, arith}
 use Rattle.std.proofs.lemmas.Option.{same_Some}
-use Rattle.lock_core.specs.declared.view.Held.TheVariants.{Alone}
 use Rattle.lock_core.specs.Pasts.{FoundAt}
-use Rattle.percpu_rwsem.specs.declared.view.Phase.TheVariants.{Blocks}
 use Rattle.percpu_rwsem.specs.PercpuHandles.{FindsZeros}
 use Rattle.percpu_rwsem.specs.PercpuPlays.{TakesPhase, phased}
 use Rattle.percpu_rwsem.specs.PercpuRuled.{V, count_at}
+use Rattle.percpu_rwsem.specs.Types.{Alone, Blocks}
 use Rattle.percpu_rwsem.proofs.Calling.{drained-one, zeros-next, zeros-stay}
 use Rattle.percpu_rwsem.proofs.site.PercpuRwSem.drain.Goals as goal
 

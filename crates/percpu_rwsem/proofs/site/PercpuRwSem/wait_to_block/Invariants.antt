@@ -1,8 +1,7 @@
 use Rattle.std.proofs.Common.{◌≡◌, ◌≤◌, ℕ, false}
-use Rattle.lock_core.specs.declared.view.Held.TheVariants.{No}
 use Rattle.lock_core.specs.Pasts.{GoesOn}
-use Rattle.percpu_rwsem.specs.declared.view.Phase.TheVariants.{Idle}
 use Rattle.percpu_rwsem.specs.PercpuHandles.{SitsAt, SleepsBehind, blocks_in}
+use Rattle.percpu_rwsem.specs.Types.{No, Idle}
 use Rattle.percpu_rwsem.proofs.site.PercpuRwSem.wait_to_block.Given as goal
 
 abbrev pub invariant-loop : goal.invariant-loop

@@ -1,8 +1,7 @@
 use Rattle.std.proofs.Common.{◌≡◌, ◌≤◌, ℕ, true}
-use Rattle.lock_core.specs.declared.view.Held.TheVariants.{No}
 use Rattle.lock_core.specs.Pasts.{GoesOn}
-use Rattle.percpu_rwsem.specs.declared.view.Phase.{Phase}
 use Rattle.percpu_rwsem.specs.PercpuHandles.{SitsAt, blocks_in}
+use Rattle.percpu_rwsem.specs.Types.{No, Phase}
 use Rattle.percpu_rwsem.proofs.Calling.{SleptDraining}
 use Rattle.percpu_rwsem.proofs.site.PercpuRwSem.wait_to_drain.Given as goal
 

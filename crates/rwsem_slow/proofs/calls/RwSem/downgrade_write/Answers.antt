@@ -1,8 +1,7 @@
-use Rattle.lock_core.specs.declared.view.Held.TheVariants.{Shared}
 use Rattle.lock_core.specs.Kinds.{semaphore, wakes_down}
-use Rattle.rwsem_wake.specs.declared.wake.WakeType.TheVariants.{ReadOwned}
 use Rattle.rwsem_wake.specs.RwSemPlaces.{seen_of}
 use Rattle.rwsem_slow.specs.RwSemHandles.{shown_of, wakes_in}
+use Rattle.rwsem_slow.specs.Types.{Shared, ReadOwned}
 use Rattle.rwsem_slow.proofs.Woken.{wakes-counting}
 use Rattle.rwsem_slow.proofs.calls.RwSem.downgrade_write.Goals as goal
 

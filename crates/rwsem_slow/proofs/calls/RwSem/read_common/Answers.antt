@@ -1,6 +1,4 @@
 use Rattle.std.proofs.Common.{◌≡◌, ◌∙◌, ℕ, ◌+◌, true, false, refl, sym, ap, subst, arith}
-use Rattle.lock_core.specs.declared.tally.Tally.{Tally}
-use Rattle.lock_core.specs.declared.view.Hand.{Hand}
 use Rattle.lock_core.specs.Pasts.{FoundAt}
 use Rattle.osq_nodes.specs.OsqHandles.{fronts_in, swaps_in}
 use Rattle.rwsem_count.specs.CountWordSteps.{IsReadFree}
@@ -8,9 +6,9 @@ use Rattle.rwsem_count.proofs.Counting.{free-or-shut}
 use Rattle.rwsem_slow.specs.RwSemHandles.{shown_of}
 use Rattle.rwsem_wake.specs.RwSemViews.{V, count_at}
 use Rattle.rwsem_slow.specs.Stealing.{left_by}
+use Rattle.rwsem_slow.specs.Types.{Tally, Hand, Shared}
 use Rattle.rwsem_slow.proofs.BiasHolds.{quit-place, went-got, went-place}
 use Rattle.rwsem_slow.proofs.Showing.{first-sees, first-tried, waits-quit}
-use Rattle.lock_core.specs.declared.view.Held.TheVariants.{Shared}
 use Rattle.lock_core.proofs.Within.{err-all, tallies-answer}
 use Rattle.rwsem_wake.specs.RwSemPlaces.{seen_of}
 use Rattle.rwsem_slow.proofs.Counting.{between-on, counts-reading}

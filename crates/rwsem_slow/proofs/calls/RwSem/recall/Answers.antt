@@ -12,8 +12,6 @@ use Rattle.lock_core.proofs.Showing.{latest-shown}
 use Rattle.osq_nodes.specs.OsqHandles.{fronts_in}
 use Rattle.qspin_word.proofs.Turning.{numbers}
 use Rattle.qspin_queue.proofs.Recalling.{each-lock, each-move}
-use Rattle.rwsem_wake.specs.declared.duty.SemWake.{SemWake}
-use Rattle.rwsem_wake.specs.declared.view.SemHand.{SemHand}
 use Rattle.rwsem_wake.specs.SemParts.{apart_hand}
 use Rattle.rwsem_wake.specs.RwSemPlaces.{line_of}
 use Rattle.rwsem_wake.specs.RwSemViews.{IsDone, V, count_at}
@@ -21,6 +19,7 @@ use Rattle.rwsem_slow.specs.RwSems.{Kept, RwSemMoves, standing, wait_lock_at}
 use Rattle.rwsem_slow.specs.Laws.RwSem.{sem-site, sem-spin}
 use Rattle.rwsem_slow.specs.RwSemHandles.{newest}
 use Rattle.rwsem_slow.specs.RwSemStated.{IsRwSemThen, stance, waits_on}
+use Rattle.rwsem_slow.specs.Types.{SemWake, SemHand}
 use Rattle.rwsem_slow.proofs.Stating.{sem-then}
 use Rattle.rwsem_slow.proofs.Chaining.{becomes}
 use Rattle.rwsem_slow.proofs.Locking.{sem-locked}

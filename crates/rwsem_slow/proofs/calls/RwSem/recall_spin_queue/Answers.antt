@@ -1,5 +1,5 @@
 use Rattle.std.proofs.Common.{◌∙◌, sym, ap, subst}
-use Rattle.lock_core.specs.declared.view.Hand.{Hand}
+use Rattle.rwsem_slow.specs.Types.{Hand}
 use Rattle.lock_core.specs.Pasts.{BeganWith, EachMoment, Ran}
 use Rattle.osq_nodes.specs.OsqHandles.{past_of, tasks_of}
 use Rattle.osq_nodes.specs.OsqPlaces.{node_marks}

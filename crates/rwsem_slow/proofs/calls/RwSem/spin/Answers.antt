@@ -4,9 +4,8 @@ use Rattle.rwsem_slow.specs.RwSemHandles.{shown_of}
 use Rattle.rwsem_wake.specs.RwSemPlaces.{seen_of}
 use Rattle.rwsem_wake.specs.RwSemViews.{V}
 use Rattle.cpu_task.proofs.SleepCounts.{answers-rise}
-use Rattle.lock_core.specs.declared.how.How.TheVariants.{Spun}
-use Rattle.lock_core.specs.declared.view.Held.TheVariants.{Alone}
 use Rattle.rwsem_slow.specs.RwSemOpening.{IsOpen}
+use Rattle.rwsem_slow.specs.Types.{Spun, Alone}
 use Rattle.rwsem_slow.proofs.Opening.{takes-within}
 use Rattle.rwsem_slow.proofs.calls.RwSem.spin.Goals as goal
 

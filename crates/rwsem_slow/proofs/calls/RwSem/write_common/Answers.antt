@@ -1,6 +1,5 @@
 use Rattle.std.proofs.Common.{◌≡◌, ◌∙◌, ℕ, false, refl, sym, ap, subst, arith, rules}
 use Rattle.std.specs.Prelude.{Ok}
-use Rattle.lock_core.specs.declared.tally.Tally.{Tally}
 use Rattle.cpu_task.specs.CpuCounting.{Rises}
 use Rattle.lock_core.proofs.Within.{err-all, tallies-answer, tried-then}
 use Rattle.osq_nodes.specs.OsqHandles.{fronts_in, swaps_in}
@@ -9,9 +8,8 @@ use Rattle.rwsem_wake.specs.RwSemViews.{V}
 use Rattle.cpu_task.proofs.SleepCounts.{dozes-none}
 use Rattle.rwsem_slow.proofs.Counting.{err-turns, left-counts, ok-turns, slept-counts}
 use Rattle.rwsem_slow.proofs.Showing.{first-sees, first-tried, spun-sees, waits-quit}
-use Rattle.lock_core.specs.declared.how.How.TheVariants.{Fast, Spun}
-use Rattle.lock_core.specs.declared.view.Held.TheVariants.{Alone}
 use Rattle.rwsem_slow.specs.RwSemOpening.{IsOpen}
+use Rattle.rwsem_slow.specs.Types.{Tally, Fast, Spun, Alone}
 use Rattle.rwsem_slow.proofs.Opening.{slept-takes, takes-within, took-since}
 use Rattle.rwsem_slow.proofs.calls.RwSem.write_common.Goals as goal
 

@@ -1,6 +1,6 @@
 use Rattle.std.proofs.Common.{◌∙◌, ap, arith, refl}
 use Rattle.wake_duty.specs.DutyWakes.{waits}
-use Rattle.rwsem_wake.specs.declared.view.Wait.TheVariants.{Reads}
+use Rattle.rwsem_slow.specs.Types.{Reads}
 use Rattle.rwsem_wake.specs.RwSemViews.{V}
 use Rattle.rwsem_wake.specs.RwSemWakes.{kind_at, woken_tasks}
 use Rattle.rwsem_wake.specs.RwSemPlaces.{seen_of}

@@ -1,6 +1,6 @@
 use Rattle.std.proofs.Common.{◌∙◌, sym, subst, ap, inl, refl}
 use Rattle.rwsem_slow.specs.Queued.{IsListed}
-use Rattle.rwsem_wake.specs.declared.view.RwSemHand.{RwSemHand}
+use Rattle.rwsem_slow.specs.Types.{RwSemHand}
 use Rattle.rwsem_wake.specs.RwSemViews.{V}
 use Rattle.rwsem_slow.proofs.Quitting.{heard-on, ungranted-leaves}
 use Rattle.rwsem_slow.proofs.reader.sleep.quit.Goals as goal

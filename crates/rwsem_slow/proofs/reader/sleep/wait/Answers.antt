@@ -1,5 +1,5 @@
 use Rattle.std.proofs.Common.{◌∙◌, refl, ap, arith, rules}
-use Rattle.lock_core.specs.declared.view.Hand.{Hand}
+use Rattle.rwsem_slow.specs.Types.{Hand}
 use Rattle.rwsem_wake.specs.RwSemViews.{V}
 use Rattle.rwsem_wake.specs.RwSemPlaces.{seen_of}
 use Rattle.lock_core.proofs.Within.{pending-within}

@@ -1,12 +1,11 @@
 use Rattle.std.proofs.Common.{◌≡◌, IsSome}
-use Rattle.lock_core.specs.declared.view.Held.TheVariants.{No}
 use Rattle.lock_core.specs.Views.{SpinRests}
 use Rattle.cpu_task.specs.CpuCounting.{Dozes}
-use Rattle.rwsem_wake.specs.declared.view.Wait.TheVariants.{Reads}
 use Rattle.lock_core.specs.SiteHandles.{MovesOn}
 use Rattle.rwsem_wake.specs.RwSemPlaces.{AreCounts, dozes_of}
 use Rattle.rwsem_slow.specs.SleepCounting.{SleepsBetween}
 use Rattle.rwsem_slow.specs.Queued.{WaitsOn}
+use Rattle.rwsem_slow.specs.Types.{No, Reads}
 use Rattle.rwsem_slow.proofs.reader.sleep.wait.Given as goal
 
 abbrev pub invariant-loop : goal.invariant-loop

@@ -1,15 +1,12 @@
 use Rattle.std.proofs.Common.{◌∙◌, ℕ, sym, ap, subst, arith, length}
-use Rattle.lock_core.specs.declared.pass.Face.{Face}
-use Rattle.lock_core.specs.declared.view.Held.TheVariants.{Shared}
 use Rattle.lock_core.specs.Pasts.{IsOwnStep, Tail}
 use Rattle.lock_core.specs.Records.{bit}
 use Rattle.lock_core.proofs.Sitting.{sits-on, sits-took, some-number}
-use Rattle.rwsem_count.specs.declared.view.Bias.TheVariants.{Clear}
-use Rattle.rwsem_wake.specs.declared.view.SemHand.{SemHand}
 use Rattle.rwsem_wake.proofs.Holding.{holds-by}
 use Rattle.rwsem_wake.specs.RwSemViews.{V, with_sem, with_wake}
 use Rattle.rwsem_slow.specs.RwSems.{biased}
 use Rattle.rwsem_slow.specs.Stealing.{MaySteal}
+use Rattle.rwsem_slow.specs.Types.{Face, Shared, Clear, SemHand}
 use Rattle.rwsem_slow.proofs.BiasHolds.{next-leaves, steals, stolen}
 use Rattle.rwsem_wake.proofs.Hinting.{hint-there}
 use Rattle.rwsem_slow.proofs.reader.steal.steal.Goals as goal

@@ -1,5 +1,5 @@
 use Rattle.std.proofs.Common.{◌∙◌, ap}
-use Rattle.rwsem_wake.specs.declared.view.SemHand.{SemHand}
+use Rattle.rwsem_slow.specs.Types.{SemHand}
 use Rattle.rwsem_wake.specs.RwSemViews.{V}
 use Rattle.rwsem_slow.proofs.WaitStates.{tried-same}
 use Rattle.rwsem_slow.proofs.WriterSteps.{ask-done}

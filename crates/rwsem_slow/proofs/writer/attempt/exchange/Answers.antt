@@ -1,6 +1,5 @@
-use Rattle.lock_core.specs.declared.how.How.TheVariants.{Slept}
-use Rattle.lock_core.specs.declared.view.Held.TheVariants.{Alone}
 use Rattle.rwsem_slow.specs.RwSemOpening.{IsOpen}
+use Rattle.rwsem_slow.specs.Types.{Slept, Alone}
 use Rattle.rwsem_slow.proofs.WriterSteps.{mark-asks, mark-fails}
 use Rattle.rwsem_slow.proofs.Opening.{takes-behind}
 use Rattle.rwsem_slow.proofs.writer.attempt.exchange.Goals as goal

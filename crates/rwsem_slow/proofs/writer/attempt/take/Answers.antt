@@ -1,8 +1,7 @@
 use Rattle.std.proofs.Common.{ap, subst, arith}
-use Rattle.lock_core.specs.declared.how.How.TheVariants.{Slept}
-use Rattle.lock_core.specs.declared.view.Held.TheVariants.{Alone}
 use Rattle.lock_core.specs.Pasts.{FoundAt}
 use Rattle.rwsem_slow.specs.RwSemOpening.{IsOpen}
+use Rattle.rwsem_slow.specs.Types.{Slept, Alone}
 use Rattle.rwsem_wake.specs.RwSemViews.{V, count_at}
 use Rattle.rwsem_slow.proofs.Opening.{takes-from}
 use Rattle.rwsem_slow.proofs.writer.attempt.take.Goals as goal

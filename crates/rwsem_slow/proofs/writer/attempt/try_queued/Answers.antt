@@ -1,8 +1,6 @@
 use Rattle.std.proofs.Common.{ap}
-use Rattle.lock_core.specs.declared.how.How.TheVariants.{Slept}
-use Rattle.lock_core.specs.declared.pass.Face.{Face}
-use Rattle.lock_core.specs.declared.view.Held.TheVariants.{Alone}
 use Rattle.rwsem_slow.specs.RwSemOpening.{IsOpen}
+use Rattle.rwsem_slow.specs.Types.{Slept, Face, Alone}
 use Rattle.rwsem_slow.proofs.Opening.{takes-behind}
 use Rattle.rwsem_slow.proofs.writer.attempt.try_queued.Goals as goal
 

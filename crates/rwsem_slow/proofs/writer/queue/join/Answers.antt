@@ -1,8 +1,7 @@
 use Rattle.std.proofs.Common.{arith, true, ℕ, ◌+◌, ap, sym, refl, ◌∙◌, subst, Option}
-use Rattle.wait_list.specs.declared.view.Waiter.{Waiter}
+use Rattle.rwsem_slow.specs.Types.{Waiter, SemHand}
 use Rattle.wait_list.specs.Lists.{FindsFirst}
 use Rattle.rwsem_wake.specs.RwSemViews.{list_of, with_list}
-use Rattle.rwsem_wake.specs.declared.view.SemHand.{SemHand}
 use Rattle.rwsem_slow.proofs.Joining.{writer-alone, writer-behind, writer-first}
 use Rattle.lock_core.proofs.Within.{since-within}
 use Rattle.wait_list.specs.Lists.{waiter_code}

@@ -1,8 +1,7 @@
 use Rattle.std.proofs.Common.{◌∙◌, arith, inl, inr, length, refl, sym, ap}
 use Rattle.cpu_task.specs.CpuCounting.{slept}
 use Rattle.wake_duty.specs.DutyWakes.{waits}
-use Rattle.rwsem_wake.specs.declared.duty.SemWake.{SemWake}
-use Rattle.rwsem_wake.specs.declared.view.Wait.TheVariants.{Writes}
+use Rattle.rwsem_slow.specs.Types.{SemWake, Writes}
 use Rattle.rwsem_wake.specs.RwSemViews.{V}
 use Rattle.rwsem_wake.specs.RwSemWakes.{woken_tasks}
 use Rattle.rwsem_slow.proofs.Marking.{marked, marks}

@@ -1,5 +1,5 @@
 use Rattle.std.proofs.Common.{◌∙◌, sym, ap, inl}
-use Rattle.rwsem_wake.specs.declared.view.SemHand.{SemHand}
+use Rattle.rwsem_slow.specs.Types.{SemHand}
 use Rattle.rwsem_slow.proofs.WriterSteps.{quit-cleared, quit-sem, quit-unmarked}
 use Rattle.rwsem_slow.proofs.writer.queue.quit_taken.Goals as goal
 

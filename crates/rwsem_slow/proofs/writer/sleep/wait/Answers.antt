@@ -1,12 +1,9 @@
 use Rattle.std.proofs.Common.{◌∙◌, refl, ap, arith, rules}
-use Rattle.lock_core.specs.declared.view.Hand.{Hand}
 use Rattle.rwsem_wake.specs.RwSemViews.{V}
 use Rattle.rwsem_wake.specs.RwSemPlaces.{seen_of}
 use Rattle.lock_core.proofs.Within.{pending-within}
-use Rattle.lock_core.specs.declared.how.How.TheVariants.{Slept}
-use Rattle.lock_core.specs.declared.view.Held.TheVariants.{Alone}
 use Rattle.rwsem_slow.specs.RwSemOpening.{IsOpen}
-use Rattle.rwsem_wake.specs.declared.duty.SemWake.{SemWake}
+use Rattle.rwsem_slow.specs.Types.{Hand, Slept, Alone, SemWake}
 use Rattle.cpu_task.proofs.SleepCounts.{dozes-again, once-within, turns-again, turns-moved}
 use Rattle.rwsem_slow.proofs.Opening.{takes-behind}
 use Rattle.rwsem_slow.proofs.writer.sleep.wait.Goals as goal

@@ -1,11 +1,10 @@
 use Rattle.std.proofs.Common.{◌≡◌, IsSome}
-use Rattle.lock_core.specs.declared.view.Held.TheVariants.{No}
 use Rattle.lock_core.specs.Views.{SpinHolds}
-use Rattle.rwsem_wake.specs.declared.view.Wait.TheVariants.{Writes}
 use Rattle.cpu_task.specs.CpuCounting.{Dozes, SleepsInTurns}
 use Rattle.lock_core.specs.SiteHandles.{MovesOn}
 use Rattle.rwsem_wake.specs.RwSemPlaces.{AreCounts, dozes_of}
 use Rattle.rwsem_slow.specs.Queued.{WaitsOn}
+use Rattle.rwsem_slow.specs.Types.{No, Writes}
 use Rattle.rwsem_slow.proofs.writer.sleep.wait.Given as goal
 
 abbrev pub invariant-loop : goal.invariant-loop

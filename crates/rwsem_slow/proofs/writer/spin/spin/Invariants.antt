@@ -1,9 +1,9 @@
 use Rattle.std.proofs.Common.{◌≡◌, IsSome}
-use Rattle.lock_core.specs.declared.view.Held.TheVariants.{No}
 use Rattle.lock_core.specs.Locking.{OnlyTried}
 use Rattle.lock_core.specs.SiteHandles.{MovesOn}
 use Rattle.rwsem_wake.specs.RwSemPlaces.{seen_of, IsOutside}
 use Rattle.rwsem_slow.specs.Spinning.{StandsSame}
+use Rattle.rwsem_slow.specs.Types.{No}
 use Rattle.rwsem_slow.proofs.writer.spin.spin.Given as goal
 
 abbrev pub invariant-loop : goal.invariant-loop

@@ -1,12 +1,10 @@
 use Rattle.std.proofs.Common.{◌∙◌, arith, ap, sym, length}
-use Rattle.lock_core.specs.declared.pass.Face.{Face}
-use Rattle.lock_core.specs.declared.view.Held.TheVariants.{Alone}
 use Rattle.lock_core.specs.Pasts.{unseen}
-use Rattle.rwsem_count.specs.declared.view.Bias.TheVariants.{Clear}
 use Rattle.lock_core.proofs.Sitting.{noted-on, sits-took, some-number}
 use Rattle.rwsem_slow.specs.RwSems.{biased}
 use Rattle.rwsem_slow.proofs.Unqueued.{saw-unqueued, sits-unqueued, unqueued-takes}
 use Rattle.rwsem_slow.specs.Laws.RwSem.{count-there}
+use Rattle.rwsem_slow.specs.Types.{Face, Alone, Clear}
 use Rattle.rwsem_slow.proofs.writer.spin.take.Goals as goal
 
 pub step-found-requires-clause-there : goal.step-found-requires-clause-there

@@ -6,9 +6,8 @@ use Rattle.rwsem_wake.specs.RwSemPlaces.{line_of}
 use Rattle.rwsem_wake.specs.RwSemViews.{V}
 use Rattle.rwsem_slow.proofs.Showing.{misses-by}
 use Rattle.rwsem_slow.proofs.Unqueued.{misses-tried}
-use Rattle.lock_core.specs.declared.how.How.TheVariants.{Spun}
-use Rattle.lock_core.specs.declared.view.Held.TheVariants.{Alone}
 use Rattle.rwsem_slow.specs.RwSemOpening.{IsOpen}
+use Rattle.rwsem_slow.specs.Types.{Spun, Alone}
 use Rattle.rwsem_slow.proofs.Opening.{took-since}
 use Rattle.rwsem_slow.proofs.writer.spin.try_outside.Goals as goal
 

@@ -1,9 +1,8 @@
 -- Before each try the pass knows what it knew before the first.
 use Rattle.std.proofs.Common.{◌∙◌, IsSome, ap, arith, refl, subst, sym}
-use Rattle.lock_core.specs.declared.pass.Face.{Face}
-use Rattle.lock_core.specs.declared.view.Hand.{Hand}
 use Rattle.seq_fault.specs.SeqRuled.{V}
 use Rattle.seq_fault.specs.SeqSteps.{HasNextFault}
+use Rattle.seq_fault.specs.Types.{Face, Hand}
 use Rattle.seq_fault.proofs.Faulting.{one-word-since}
 use Rattle.seq_fault.proofs.faults.SeqSite+Areas.fault_wait.Goals as goal
 

@@ -1,0 +1,24 @@
+-- The types that this crate speaks of, with their variants, from one place.
+pub use Rattle.lock_core.specs.declared.op.Op.{Op}
+pub use Rattle.lock_core.specs.declared.op.Op.TheVariants.{Add, Exchange, Load}
+pub use Rattle.lock_core.specs.declared.pass.Face.{Face}
+pub use Rattle.lock_core.specs.declared.pass.Pass.{Pass}
+pub use Rattle.lock_core.specs.declared.view.Hand.{Hand}
+pub use Rattle.lock_core.specs.declared.view.Held.{Held}
+pub use Rattle.lock_core.specs.declared.view.Held.TheVariants.{Alone, No, Shared}
+pub use Rattle.lock_core.specs.declared.view.Moment.{Moment}
+pub use Rattle.lock_core.specs.declared.view.Past.{Past}
+pub use Rattle.lock_core.specs.declared.view.Saw.{Saw}
+pub use Rattle.lock_core.specs.declared.view.Seen.{Seen}
+pub use Rattle.lock_core.specs.declared.view.SpinHand.{SpinHand}
+pub use Rattle.lock_core.specs.declared.view.Stage.TheVariants.{Rest}
+pub use Rattle.lock_core.specs.declared.view.View.{View}
+pub use Rattle.seq_fault.specs.declared.view.Glance.{Glance}
+pub use Rattle.seq_fault.specs.declared.view.Watch.{Watch}
+pub use Rattle.seq_fault.specs.declared.view.Watch.TheVariants.{Off, On}
+pub use Rattle.vma_map.specs.declared.call.SpaceCall.{SpaceCall}
+pub use Rattle.vma_map.specs.declared.call.SpaceCall.TheVariants.{Fault}
+pub use Rattle.vma_map.specs.declared.search.Search.{Search}
+pub use Rattle.word_bits.specs.declared.call.CallWords.{CallWords}
+pub use Rattle.word_bits.specs.declared.entry.Entry.{Entry}
+pub use Rattle.word_bits.specs.declared.reply.Reply.{Reply}
