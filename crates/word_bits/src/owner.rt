@@ -4,7 +4,6 @@ ghost use Rattle.word_bits.specs.Packed.{Unpacks};
 ghost use Rattle.word_bits.specs.OwnerWord.{IsOwner, owner_word, task_code};
 
 use crate::MAX_TASKS;
-use crate::bits::is_set;
 
 /// What an owner word says. With `pickup` the task is the waiter that is to take the mutex, and
 /// without it the task holds the mutex.
@@ -61,9 +60,9 @@ impl Owner {
         }
         Some(Owner {
             task: task_of(word / 8),
-            waiters: is_set(word, 0),
-            handoff: is_set(word, 1),
-            pickup: is_set(word, 2),
+            waiters: word % 2 == 1,
+            handoff: word / 2 % 2 == 1,
+            pickup: word / 4 % 2 == 1,
         })
     }
 }
