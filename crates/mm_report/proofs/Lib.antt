@@ -8,6 +8,7 @@ pub mod Remaining
 pub mod Calls
 pub mod Tasks
 pub mod Legal
+mod Linked
 pub mod Counted
 pub mod Descriptors
 pub mod Tallies

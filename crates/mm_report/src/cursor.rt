@@ -3,7 +3,7 @@ ghost use Rattle.std.specs.Prelude.{◌≡◌, ◌≤◌, ◌<◌, ◌+◌, ◌�
 ghost use Rattle.mm_report.specs.Results.{calls_on};
 ghost use Rattle.mm_report.specs.Cursors.{earliest, IsOneBelow, StandFirst};
 
-use crate::results::count_on;
+use crate::task_calls::calls_of;
 use task_script::Script;
 use word_bits::MAX_TASKS;
 
@@ -48,7 +48,7 @@ pub(crate) fn first_cursors(
     let mut rec = 0;
     for task in 0..script.tasks() {
         cursors[task].rec = rec;
-        rec += count_on(script.calls(task), object);
+        rec += calls_of(script, task).count_on(object);
     }
     cursors
 }

@@ -6,6 +6,7 @@
 ghost use Rattle.std.specs.Prelude.{◌≡◌, ◌<◌, ◌≤◌, length, slice_get, Some, IsSome};
 ghost use Rattle.word_bits.specs.RecWord.{IsRec, rec_word};
 ghost use Rattle.byte_streams.specs.Causes.{CountsFailure, Adds};
+ghost use Rattle.task_script.specs.Links.{HasLinks};
 ghost use Rattle.mm_report.specs.Results.{calls_on};
 ghost use Rattle.mm_report.specs.Text.{event_line};
 ghost use Rattle.mm_report.specs.Merged.{position as where_it_stands};
@@ -14,8 +15,9 @@ ghost use Rattle.mm_report.specs.Types.{Rec};
 
 use crate::cursor::{Cursor, first_cursors, next_bound};
 use crate::line::add_event;
+use crate::task_calls::{TaskCalls, calls_of};
 use byte_streams::{Failed, Outbox, Sink};
-use task_script::{Line, Script};
+use task_script::Script;
 use word_bits::{CallWords, Object, Rec, Reply, Snapshot, is_logged};
 
 // Where a call stands: in front of an entry of the log, or as that entry.
@@ -68,22 +70,26 @@ impl History<'_> {
     /// The next calls of a task, as long as they stand below a position.
     fn write_calls<O: Object, K: Sink>(
         &self,
-        lines: &[Line],
+        calls: &TaskCalls,
         task: u32,
         bound: u64,
         cursor: &mut Cursor,
         out: &mut Outbox,
         sink: &mut K,
     ) -> Result<(), Failed>
-        ensures text { WritesCalls O.object self.now.object self.now.recs.now bound task lines.now
-            cursor.old (K.written sink.old) (K.written sink.new) out.old out.new result }
+        requires linked { HasLinks calls.now.lines.now calls.now.links.now }
+        ensures text { WritesCalls O.object self.now.object self.now.recs.now bound task
+            calls.now.lines.now cursor.old (K.written sink.old) (K.written sink.new)
+            out.old out.new result }
         ensures reached { PassesCalls O.object self.now.object self.now.recs.now bound
-            task lines.now cursor.old cursor.new result }
+            task calls.now.lines.now cursor.old cursor.new result }
         ensures cause { CountsFailure (K.faults sink.old) (K.faults sink.new) result }
     {
-        for number in cursor.line..lines.len() {
-            let line = lines[number];
+        let mut number = cursor.line;
+        while number < calls.lines.len() {
+            let line = calls.lines[number];
             if line.object != self.object {
+                number += 1;
                 continue;
             }
             let words = line.call();
@@ -98,8 +104,9 @@ impl History<'_> {
             }
             write_event(task, number, words, rec.reply, out, sink)?;
             cursor.rec += 1;
+            number = calls.links[number];
         }
-        cursor.line = lines.len();
+        cursor.line = calls.lines.len();
         cursor.position = None;
         Ok(())
     }
@@ -123,8 +130,8 @@ impl History<'_> {
         if cursor.earliest() >= bound {
             return Ok(());
         }
-        let lines = self.script.calls(task as usize);
-        self.write_calls::<O, K>(lines, task, bound, cursor, out, sink)
+        let calls = calls_of(self.script, task as usize);
+        self.write_calls::<O, K>(&calls, task, bound, cursor, out, sink)
     }
 
     /// The next calls of all tasks, as long as they stand below a position, task by task.

@@ -8,6 +8,7 @@ mod line;
 mod results;
 mod state;
 mod summary;
+mod task_calls;
 mod text;
 
 pub use laws::{

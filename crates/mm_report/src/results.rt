@@ -1,6 +1,5 @@
 //! What each object of a script leaves.
-ghost use Rattle.std.specs.Prelude.{◌≡◌, ◌<◌, ◌≤◌, length, slice_get, Some, IfOk, ℕ, List, OnOk, count_by, get_or};
-ghost use Rattle.task_script.specs.Scripts.{is_on};
+ghost use Rattle.std.specs.Prelude.{◌≡◌, ◌<◌, ◌≤◌, length, slice_get, Some, IfOk, ℕ, List, OnOk, get_or};
 ghost use Rattle.mm_report.specs.Results.{AddsCalls, empty_results, calls_on, words_of_kind};
 ghost use Rattle.std.specs.Borrow.{sem};
 ghost use Rattle.mm_report.specs.ResultsLending.{LendsSnapshot};
@@ -9,7 +8,7 @@ ghost use Rattle.mm_report.specs.Types.{Line};
 use fd_table::Fds;
 use std::alloc::{AllocError, Global};
 use std::marker::Model;
-use task_script::{Line, MAX_OBJECTS, Script};
+use task_script::{MAX_OBJECTS, Script};
 use vma_map::Areas;
 use word_bits::{Object, Snapshot};
 
@@ -26,12 +25,6 @@ impl Model for Results {
     ghost Value = { List Words };
 
     ghost view = { λ r. r.snapshots.items };
-}
-
-pub(crate) fn count_on(lines: &[Line], object: u32) -> usize
-    ensures { result ≡ count_by (is_on object) lines.now }
-{
-    lines.iter().filter(|line| line.object == object).count()
 }
 
 pub(crate) fn state_words(is_space: bool) -> usize

@@ -2,6 +2,7 @@ mod CallTexts
 mod Cutting
 pub mod Decimals
 mod FewCalls
+mod Linking
 mod Listings
 mod Accepted
 mod Names

@@ -9,7 +9,7 @@ use Rattle.std.proofs.lemmas.Bool.{and_parts, and_from}
 use Rattle.std.proofs.lemmas.List.{length-map}
 use Rattle.std.proofs.lemmas.List.Folds.{list_all-append}
 use Rattle.std.proofs.lemmas.Slice.Eq.{bytes_eq-Decides}
-use Rattle.std.proofs.lemmas.Option.{slice_get-map, slice_get_read, slice_get_within, same_Some}
+use Rattle.std.proofs.lemmas.Option.{slice_get-map, slice_get-get_or, slice_get_read, slice_get_within, same_Some}
 use Rattle.std.proofs.lemmas.Bool.Decides.{nat_tests}
 use Rattle.arrayvec.specs.ArrayString.{ArrayString}
 use Rattle.indexmap.specs.IndexMap.{insert_entry}
@@ -18,10 +18,12 @@ use Rattle.task_script.specs.declared.version.Version.{Version}
 use Rattle.task_script.specs.declared.script.Kind.{Kind}
 use Rattle.task_script.specs.declared.script.Kind.TheVariants.{Space, Table}
 use Rattle.task_script.specs.Scripts.{Declared}
-use Rattle.task_script.specs.Inside.{are_named, declared_of, is_space_kind}
+use Rattle.task_script.specs.Inside.{are_named, declared_of, is_space_kind, listing}
 use Rattle.task_script.specs.Texts.{name_at}
 use Rattle.task_script.specs.Tokens.{is_name}
-use Rattle.task_script.specs.Sound.{IsLine, AreNamed}
+use Rattle.task_script.specs.Types.{One, Two}
+use Rattle.task_script.specs.Versions.{most_objects}
+use Rattle.task_script.specs.Sound.{IsLine, AreNamed, IsSound}
 use Rattle.task_script.specs.Grammar.{is_space_at, place_of, with_call}
 
 -- the keys are looked through as the names are
@@ -146,3 +148,16 @@ pub name_found : (objects : List Declared) (i : ℕ) (name : List ℕ) → slice
 name_found [] i name is = cc
 name_found (d ∷ ds) zero name is = same_Some d.name name is
 name_found (d ∷ ds) (suc i) name is = name_found ds i name is
+
+most_few : (version : Version) → most_objects version ≤ 32
+most_few One = omega arith
+most_few Two = omega arith
+
+-- so each call's object is one of 32
+pub objects_few : (version : Version) (objects : List (ArrayString × Kind)) (tasks : List (Vec Line)) → IsSound (listing version objects tasks) → All (λ (v : Vec Line). All (λ (l : Line). l.object < 32) v.items) tasks
+objects_few version objects tasks sound i d within j e below =
+    let lines = get_or tasks i d in
+    let at : slice_get (map (λ (v : Vec Line). v.items) tasks) i ≡ Some lines.items = slice_get-map (λ (v : Vec Line). v.items) tasks i ∙ rw (slice_get-get_or tasks i d within) refl in
+    let on = task_declared version (map declared_of objects) (map (λ (v : Vec Line). v.items) tasks) i lines.items sound.calls at j e below in
+    let few = sound.few_objects in
+    omega (arith, on, few, most_few version)

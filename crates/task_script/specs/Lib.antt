@@ -10,5 +10,6 @@ pub mod Texts
 pub mod Grammar
 pub mod Readings
 pub mod Sound
+pub mod Links
 pub mod Padding
 pub mod Generated

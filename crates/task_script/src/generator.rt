@@ -112,9 +112,5 @@ pub fn generate(alloc: Global, number: u32) -> Result<Script, AllocError>
         let seed = number.wrapping_add(task);
         tasks.push(random_lines(alloc, task, seed, CALLS)?)?;
     }
-    Ok(Script {
-        version: Version::One,
-        objects,
-        tasks,
-    })
+    Script::new(alloc, Version::One, objects, tasks)
 }

@@ -5,6 +5,7 @@ mod cut;
 mod draft;
 mod generator;
 mod laws;
+mod links;
 mod reader;
 mod reason;
 mod script;

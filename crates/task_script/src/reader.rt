@@ -77,9 +77,5 @@ pub fn read(alloc: Global, bytes: &[u8]) -> Result<Script, ScriptError>
         objects,
         tasks,
     } = read_lines(alloc, bytes)?;
-    Ok(Script {
-        version,
-        objects,
-        tasks,
-    })
+    Script::new(alloc, version, objects, tasks).map_err(|_| ScriptError::Memory)
 }

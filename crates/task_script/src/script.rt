@@ -1,9 +1,11 @@
 //! A script: its objects, and the calls of its tasks.
-ghost use Rattle.std.specs.Prelude.{◌≡◌, ◌<◌, ◌≤◌, length, slice_get, Some, All};
+ghost use Rattle.std.specs.Prelude.{◌≡◌, ◌<◌, ◌≤◌, length, slice_get, Some, All, IfOk, List};
 
+use crate::links::link_calls;
 use crate::token::Name;
 use crate::version::Version;
 use indexmap::IndexMap;
+use std::alloc::{AllocError, Global};
 use std::marker::Model;
 use word_bits::CallWords;
 
@@ -50,27 +52,51 @@ pub(crate) enum Kind {
 /// it is a space, and for each task the list of its calls.
 #[derive(Drop)]
 pub struct Script {
-    pub(crate) version: Version,
-    pub(crate) objects: IndexMap<Name, Kind>,
-    pub(crate) tasks: Vec<Vec<Line>>,
+    version: Version,
+    objects: IndexMap<Name, Kind>,
+    tasks: Vec<Vec<Line>>,
+    /// For each call of a task the place of the task's next one on the same object.
+    links: Vec<Vec<usize>>,
 }
 
 impl Model for Script {
     ghost use Rattle.task_script.specs.Inside.{listing};
     ghost use Rattle.task_script.specs.Scripts.{Listing};
-    ghost use Rattle.task_script.specs.Sound.{IsSound};
+    ghost use Rattle.task_script.specs.Links.{IsSoundAndLinked};
 
     ghost Value = { Listing };
 
     ghost view = { λ s. listing s.version s.objects.entries s.tasks.items };
 
-    ghost invariant = { λ s. IsSound (listing s.version s.objects.entries s.tasks.items) };
+    ghost invariant = { λ s. IsSoundAndLinked (listing s.version s.objects.entries s.tasks.items)
+        s.tasks.items s.links.items };
 }
 
 impl Script {
     ghost use Rattle.task_script.specs.Scripts.{names_of, kinds_of};
     ghost use Rattle.task_script.specs.Sound.{IsSound};
     ghost use Rattle.task_script.specs.Versions.{version_number};
+    ghost use Rattle.task_script.specs.Inside.{listing};
+    ghost use Rattle.task_script.specs.Links.{HasLinks};
+
+    /// A script of these parts.
+    pub(crate) fn new(
+        alloc: Global,
+        version: Version,
+        objects: IndexMap<Name, Kind>,
+        tasks: Vec<Vec<Line>>,
+    ) -> Result<Script, AllocError>
+        requires sound { IsSound (listing version objects.entries tasks.items) }
+        ensures parts { IfOk result (λ s. s ≡ listing version objects.entries tasks.items) }
+    {
+        let links = link_calls(alloc, &tasks)?;
+        Ok(Script {
+            version,
+            objects,
+            tasks,
+            links,
+        })
+    }
 
     /// The number of the script's version: 1 or 2.
     pub fn version(&self) -> u32
@@ -129,5 +155,15 @@ impl Script {
         ensures on_objects { All (λ l. l.object < length self.now.objects) result.now }
     {
         self.tasks[task].as_slice()
+    }
+
+    /// For each of `calls(task)` the place there of the task's next call on the same object, or
+    /// `calls(task).len()` if there is none.
+    pub fn links(&self, task: usize) -> &[usize]
+        requires { task < length self.now.tasks }
+        ensures { (lines : List Line) → slice_get self.now.tasks task ≡ Some lines →
+            HasLinks lines result.now }
+    {
+        self.links[task].as_slice()
     }
 }

@@ -27,17 +27,17 @@ pub returns-clause-text : goal.returns-clause-text
 returns-clause-text g c = λ lines rs left at has is.
     let o = g.O.Object.object in
     let first = first_record c.args.self.now.script.now c.args.self.now.object c.args.task in
-    let own = same_Some lines c.calls-lines.result.now (sym at ∙ c.calls-lines.ensures.calls) in
+    let own = same_Some lines c.calls_of-calls.result.lines.now (sym at ∙ c.calls_of-calls.ensures.calls) in
     let has_own = subst (λ ls. HasRecords c.args.self.now.object ls c.args.self.now.recs.now first rs) own has in
     let is_own = subst (λ ls. IsAt o c.args.self.now.object c.args.task ls first rs c.args.cursor.now left) own is in
     subst (λ t. Adds (g.K.Sink.written c.args.sink.now) (g.K.Sink.written c.write_calls.new.sink) c.args.out.now c.write_calls.new.out t c.write_calls.result)
-    (left_text o c.args.self.now.script.now c.args.self.now.object c.args.task c.args.bound first c.calls-lines.result.now rs c.args.cursor.now left c.calls-lines.ensures.calls is_own) (c.write_calls.ensures.text first rs left has_own is_own)
+    (left_text o c.args.self.now.script.now c.args.self.now.object c.args.task c.args.bound first c.calls_of-calls.result.lines.now rs c.args.cursor.now left c.calls_of-calls.ensures.calls is_own) (c.write_calls.ensures.text first rs left has_own is_own)
 
 pub returns-clause-reached : goal.returns-clause-reached
 returns-clause-reached g c = λ lines rs left at has is.
     let o = g.O.Object.object in
     let first = first_record c.args.self.now.script.now c.args.self.now.object c.args.task in
-    let own = same_Some lines c.calls-lines.result.now (sym at ∙ c.calls-lines.ensures.calls) in
+    let own = same_Some lines c.calls_of-calls.result.lines.now (sym at ∙ c.calls_of-calls.ensures.calls) in
     let has_own = subst (λ ls. HasRecords c.args.self.now.object ls c.args.self.now.recs.now first rs) own has in
     let is_own = subst (λ ls. IsAt o c.args.self.now.object c.args.task ls first rs c.args.cursor.now left) own is in
     subst (λ ls. OnOk c.write_calls.result (IsAt o c.args.self.now.object c.args.task ls first rs c.write_calls.new.cursor (behind o c.args.bound left))) (sym own) (c.write_calls.ensures.reached first rs left has_own is_own)

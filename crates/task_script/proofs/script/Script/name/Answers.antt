@@ -10,4 +10,4 @@ returns-clause-name c =
 pub returns-clause-some : goal.returns-clause-some
 returns-clause-some c =
     let kept = name_kept c.self.inside.objects.entries c.args.object _ (rw c.unwrap.ensures at c.get_index.ensures.entry) in
-    rw c.as_str.ensures.value (name_is_short _ (named_at [] _ c.args.object _ c.self.invariant.named kept)).0
+    rw c.as_str.ensures.value (name_is_short _ (named_at [] _ c.args.object _ c.self.invariant.sound.named kept)).0
