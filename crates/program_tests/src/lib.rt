@@ -1,8 +1,8 @@
-//! Tests of values: packed words, address spaces, descriptor tables, scripts, and texts of results.
-//! Tests of the program that no process can show: streams in memory that fail, gates, CPUs, a
-//! command line that couldn't be read, and the machine that is kept.
+//! Tests of values: packed words, searches of a space, scripts, and texts of results. Tests of the
+//! program that no process can show: streams in memory that fail, gates, CPUs, a command line that
+//! couldn't be read, and the machine that is kept.
 //!
-//! The texts of scripts stand in examples/.
+//! The calls on spaces and tables, and the texts of scripts, stand in examples/.
 #![tactic(auto)]
 
 #[cfg(test)]
@@ -12,8 +12,6 @@ mod gate_tests;
 #[cfg(test)]
 mod line_tests;
 #[cfg(test)]
-mod remap_tests;
-#[cfg(test)]
 mod report_tests;
 #[cfg(test)]
 mod runs;
@@ -22,13 +20,7 @@ mod script_tests;
 #[cfg(test)]
 mod search_tests;
 #[cfg(test)]
-mod space_tests;
-#[cfg(test)]
-mod spaces;
-#[cfg(test)]
 mod stream_tests;
-#[cfg(test)]
-mod table_tests;
 #[cfg(test)]
 mod version_tests;
 #[cfg(test)]

@@ -131,40 +131,6 @@ fn reported(
     Ok((whole, summary))
 }
 
-#[test]
-fn reports_calls_that_change_nothing(rt: HostRuntime) -> Result<(), Fail> {
-    let text = b"space a\nspace b_2\ntask\n\
-        b_2 fault 16 r\na fault 5 r\nb_2 fault 4294967295 w\nb_2 fault 0 x\n";
-    let left = [
-        Left {
-            recs: &[4 << 18],
-            log: &[],
-            state: &[0],
-        },
-        Left {
-            recs: &[1 << 18, 5 << 18, 6 << 18 | 9 << 22],
-            log: &[],
-            state: &[2, 5 | 20 << 3 | 16 << 24, 2 | 1_048_576 << 3 | 20 << 24],
-        },
-    ];
-    let (whole, summary) = reported(&rt, rt.alloc(), text, &left)?;
-    let expected = "space a\n\
-        0.1 fault 5 r = maperr\n\
-        left 0\n\
-        space b_2\n\
-        0.0 fault 16 r = ok\n\
-        0.2 fault 4294967295 w = accerr\n\
-        0.3 fault 0 x = busy 9\n\
-        left 2\n\
-        16-20 r-x\n\
-        20-1048576 -w-\n";
-    assert!(rt; whole.written() == expected.as_bytes());
-    let expected = "a: 1 calls, 0 logged, 1 refused, 0 left\n\
-        b_2: 3 calls, 0 logged, 1 refused, 2 left\n";
-    assert!(rt; summary.written() == expected.as_bytes());
-    Ok(())
-}
-
 // Three tasks, of which two map: calls that read, a try that found the lock held, a signal and a
 // call that it interrupted, before and behind the logged ones.
 #[test]

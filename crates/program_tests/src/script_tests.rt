@@ -1,10 +1,11 @@
-//! Scripts as values, sources and sinks in memory and over streams, and generated scripts.
+//! Scripts as values, and sources and sinks in memory and over streams that fail. What the program
+//! reads and writes stands in examples/.
 use byte_streams::{Failed, MemSink, MemSource, Outbox, ReadSource, Sink, Source, WriteSink, put};
 use std::alloc::Global;
 use std::io::{self, ErrorKind, Read, Write};
 use std::process::Abort;
 use std::test::Fail;
-use task_script::{Line, generate, read, write};
+use task_script::{Line, read, write};
 
 #[test]
 fn keeps_what_it_reads(rt: HostRuntime) -> Result<(), Fail> {
@@ -146,29 +147,6 @@ fn outbox_gathers(rt: HostRuntime) -> Result<(), Fail> {
     Ok(())
 }
 
-#[test]
-fn a_source_passes_on_what_its_stream_gives(rt: HostRuntime) {
-    let mut source = ReadSource::new(b"abc".as_slice());
-    let mut buffer = [0; 2];
-    assert!(rt; source.read(&mut buffer) == Ok(2));
-    assert!(rt; buffer.as_slice() == b"ab".as_slice());
-    assert!(rt; source.read(&mut buffer) == Ok(1));
-    assert!(rt; source.read(&mut buffer) == Ok(0));
-}
-
-#[test]
-fn a_sink_passes_on_what_its_stream_takes(rt: HostRuntime) {
-    let mut written = Vec::new(rt.alloc());
-    let mut sink = WriteSink::new(&mut written);
-    assert!(rt; put(&mut sink, b"abc").is_ok());
-    drop(sink);
-    assert!(rt; written.as_slice() == b"abc".as_slice());
-
-    let mut two = [0; 2];
-    let mut small = WriteSink::new(two.as_mut_slice());
-    assert!(rt; put(&mut small, b"abc") == Err(Failed));
-}
-
 /// A stream whose first call fails with an error of a kind. Each later one gives or takes a byte.
 #[derive(Drop)]
 struct FailsFirst {
@@ -240,14 +218,4 @@ fn streams_answer_a_failure_of_each_kind_at_once_and_go_on(rt: HostRuntime) {
         assert!(rt; put_through(&mut writer) == (Err(Failed), 1), "{kind:?}");
         assert!(rt; put_through(&mut writer) == (Ok(()), 3), "{kind:?}");
     }
-}
-
-#[test]
-fn generates_by_numbers(rt: HostRuntime) -> Result<(), Fail> {
-    let script = generate(rt.alloc(), 7)?;
-    let mut sink = MemSink::new(rt.alloc(), 399_999, 4_096, &[])?;
-    write(&script, &mut sink)?;
-    let front = "space m\ntask\nm protect 21 1 -w-\nm fault 1 x\nm map 16 5 --x\n";
-    assert!(rt; sink.written().starts_with(front.as_bytes()));
-    Ok(())
 }

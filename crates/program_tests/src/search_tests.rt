@@ -1,6 +1,6 @@
 //! Searches that ask for one word at a time, beside `find` over all words.
+ghost use Rattle.vma_map.specs.Spaces.{AreSpaceWords};
 
-use crate::spaces::stored;
 use std::test::Fail;
 use vma_map::{Areas, Search, find};
 use word_bits::{Area, ValueObject};
@@ -12,6 +12,14 @@ fn all_areas() -> [u64; 257] {
     for page in 0..256u64 {
         words[page as usize + 1] = page << 24 | (page + 1) << 3 | (1 + 2 * (page % 2));
     }
+    words
+}
+
+fn stored(space: &Areas) -> [u64; 257]
+    ensures { AreSpaceWords result }
+{
+    let mut words = [0; 257];
+    space.store(&mut words);
     words
 }
 

@@ -1,5 +1,5 @@
-//! Scripts of both versions: which one is read, and the words and the text of a remap. What each
-//! refuses stands in examples/version.cases.
+//! The words and the text of a remap, in a script of version 2. What each version refuses stands in
+//! examples/version.cases.
 use crate::script_tests::rewritten;
 use std::test::Fail;
 use task_script::{Line, read};
@@ -33,14 +33,5 @@ fn writes_remaps_in_canonical_form(rt: HostRuntime) -> Result<(), Fail> {
     let canonical = "version 2\nspace a\ntask\na remap 16 4 100\ntry a remap 0 1 4294967295\n\
         a signal 399\n";
     assert!(rt; sink.written() == canonical.as_bytes());
-    Ok(())
-}
-
-#[test]
-fn is_of_version_1_where_nothing_is_said(rt: HostRuntime) -> Result<(), Fail> {
-    for (text, version) in [("", 1), ("space a\n", 1), ("version 2\n", 2)] {
-        let script = read(rt.alloc(), text.as_bytes())?;
-        assert!(rt; script.version() == version, "{text:?}");
-    }
     Ok(())
 }
