@@ -1,58 +1,26 @@
 -- What a holder may record of its task's next call.
-use Rattle.std.proofs.Common.{◌≡◌, ◌≤◌, ◌+◌, ℕ, Bool, false, Option, Some, None, is_some, true, slice_get, refl, sym, ap, ◌∙◌, subst, arith, List}
+use Rattle.std.proofs.Common.{◌≡◌, ℕ, sym, ap, ◌∙◌, List}
 use Rattle.word_bits.specs.declared.entry.Entry.{Entry}
 use Rattle.word_bits.specs.declared.reply.Reply.{Reply}
 use Rattle.word_bits.specs.declared.reply.Reply.TheVariants.{Good, Num, Refused, MapErr, AccErr, Busy, Intr, Sent}
-use Rattle.word_bits.specs.LockWords.{Unavailable, owned}
+use Rattle.word_bits.specs.LockWords.{Unavailable}
 use Rattle.word_bits.specs.Objects.{Obj, IsObjectReply}
 use Rattle.word_bits.specs.Histories.{Plan, state_after}
 use Rattle.word_bits.proofs.States.{IsLawful, state_is_state}
 use Rattle.lock_core.specs.declared.view.Hand.{Hand}
-use Rattle.word_bits.specs.declared.call.CallWords.{CallWords}
-use Rattle.word_bits.specs.declared.call.Mode.TheVariants.{Int}
-use Rattle.word_bits.specs.Calls.{mode_of}
-use Rattle.lock_core.specs.declared.view.View.{View}
-use Rattle.lock_core.specs.declared.view.Held.TheVariants.{No}
 use Rattle.std.specs.Option.{option_map_or}
 use Rattle.lock_core.specs.declared.pass.Face.{Face}
 use Rattle.lock_core.specs.declared.pass.Pass.{Pass}
 use Rattle.lock_core.specs.declared.site.Site.{Site}
 use Rattle.lock_core.specs.SiteHandles.{hand_in, SitsAt, SaysSame}
-use Rattle.lock_core.specs.Records.{row}
-use Rattle.lock_core.specs.Views.{consuming, next_entry}
-use Rattle.lock_core.specs.Shown.{IsNextCall}
-use Rattle.lock_core.specs.declared.how.Interrupted.{Interrupted}
-use Rattle.lock_core.specs.SitePasses.{Consumes, IsInterrupted, IsReading, MayNote}
-use Rattle.lock_core.proofs.HandLaws.{not-both}
-use Rattle.mutex_word.specs.Holders.{MissesOwner}
+use Rattle.lock_core.specs.Views.{next_entry}
+use Rattle.lock_core.specs.SitePasses.{IsReading, MayNote}
 use Rattle.lock_core.specs.Locking.{IsStored}
 
 -- two passes that say the same of themselves are at the same call
 pub stored-next : {R O E C : Type 0} (site : Site R O E C) (p q : Pass R O E C) → SitsAt site p → SitsAt site q → SaysSame p q → next_entry (hand_in q) ≡ next_entry (hand_in p)
 stored-next site p q own own' same = let task : (hand_in q).task ≡ (hand_in p).task = sym own'.task ∙ (ap (λ (f : Face). f.task) same ∙ own.task) in let done : (hand_in q).done ≡ (hand_in p).done = sym own'.done ∙ (ap (λ (f : Face). f.done) same ∙ own.done) in
     λ i. record { task = option_map_or (λ (t : ℕ). t) (task i) 0; call = done i }
-
--- the call that there is
-pub known-call : {X : Type 0} (x : Option X) → is_some x ≡ true → (call : X) × (x ≡ Some call)
-known-call (Some call) e = (call, refl)
-known-call None e = not-both false refl e
-
--- one that waits for signals is interrupted where a try saw the lock taken, and its pass then consumed a signal
-pub interrupted-next : {E Call : Type 0} (o : Obj Call) (k : Plan) (v u w : View E) (words : CallWords) (call : Call) (word : ℕ) (why : Interrupted) → IsNextCall k v.hand words → o.call_of words ≡ Some call → mode_of words ≡ Int → v.hand.held ≡ No → v.hand.consumed ≡ 0 → v.hand.last ≤ v.steps
-    → MissesOwner v word u → ((reads : Bool) → owned reads word) → Consumes why u w → IsInterrupted o owned k w.hand (next_entry w.hand)
-interrupted-next o k v u w words call word why next is waits out none latest missed shut consumed = let then_it = ap (λ (x : View _). x.hand) missed.1 in let now = ap (λ (x : View _). x.hand) consumed.now in record {
-  words = words;
-  call = call;
-  planned = subst (λ (h : Hand). slice_get (row k (next_entry h).task) (next_entry h).call ≡ Some words) (sym (now ∙ ap consuming then_it)) next.1;
-  is = is;
-  waits = waits;
-  free = ap (λ (h : Hand). h.held) now ∙ (ap (λ (h : Hand). h.held) then_it ∙ out);
-  consumed = let a = ap (λ (h : Hand). h.consumed) now in let b = ap (λ (h : Hand). h.consumed) then_it in omega (arith, a, b, none);
-  saw = record { word = word; step = v.steps + 1 };
-  seen = ap (λ (h : Hand). h.saw) now ∙ ap (λ (h : Hand). h.saw) then_it;
-  since = let a = ap (λ (h : Hand). h.last) now in let b = ap (λ (h : Hand). h.last) then_it in omega (arith, a, b, latest);
-  shut = shut (o.reads call);
-}
 
 module _ {Call : Type 0} (o : Obj Call) where
   pub may-note : (unavailable : Unavailable) (k : Plan) (h : Hand) (e : Entry) (reply : Reply) → IsObjectReply reply → IsReading o k h e reply → MayNote o unavailable k h e reply

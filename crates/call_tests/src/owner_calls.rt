@@ -6,10 +6,10 @@ ghost use Rattle.lock_core.specs.Locking.{IsStored};
 ghost use Rattle.mutex_word.specs.OwnerHandles.{plan_of, hand_in, task_in, held_in, SitsAt};
 ghost use Rattle.call_tests.specs.OwnerStanding.{OwesNothing, OwesSame, SameSpin, SaysSame};
 
-use lock_core::{Interrupted, SiteLock};
+use lock_core::SiteLock;
 use mutex_word::{OwnerPass, OwnerSite};
 use std::thread;
-use word_bits::{CallWords, MAX_TASKS, Mode, Object, Reply, ValueObject};
+use word_bits::{CallWords, Object, Reply, ValueObject};
 
 /// How often a pass tries for the lock.
 const TRIES: u32 = 100_000_000;
@@ -91,90 +91,6 @@ pub fn perform<O: ValueObject + Drop>(site: &OwnerSite<O>, pass: &mut OwnerPass<
         site.commit(pass, next.call, reply);
     }
     Some(reply)
-}
-
-/// Sends the signal that the next call of the pass's task is, records it, and answers its target.
-/// `None` where that call is no signal to a task.
-pub fn send<O: Object>(site: &OwnerSite<O>, pass: &mut OwnerPass<O>) -> Option<u32>
-    requires own { SitsAt site.now pass.old }
-    requires numbered { IsSome (task_in pass.old) }
-    requires out { held_in pass.old ≡ No }
-    requires owes { OwesNothing pass.old }
-    ensures own { SitsAt site.now pass.new }
-    ensures task { task_in pass.new ≡ task_in pass.old }
-    ensures out { held_in pass.new ≡ No }
-    ensures quiet { (hand_in pass.new).writes ≡ (hand_in pass.old).writes }
-    ensures owes { OwesNothing pass.new }
-    ensures spin { SameSpin pass.old pass.new }
-{
-    let next = next_call(site, pass)?;
-    let target = next.words.signal()?;
-    if target >= MAX_TASKS {
-        return None;
-    }
-    site.signal(pass, target);
-    site.note(pass, next.call, Reply::Sent);
-    Some(target)
-}
-
-/// Tries once for the lock on behalf of the next call of the pass's task, where that is one that
-/// waits for signals, and lets go of it at once. Where the try missed and a signal is pending, the
-/// call is recorded as interrupted: answers how many were sent and consumed then.
-pub fn interrupt<O: Object>(site: &OwnerSite<O>, pass: &mut OwnerPass<O>) -> Option<Interrupted>
-    requires own { SitsAt site.now pass.old }
-    requires numbered { IsSome (task_in pass.old) }
-    requires out { held_in pass.old ≡ No }
-    requires quiet { (hand_in pass.old).writes ≡ false }
-    requires owes { OwesNothing pass.old }
-    ensures own { SitsAt site.now pass.new }
-    ensures task { task_in pass.new ≡ task_in pass.old }
-    ensures out { held_in pass.new ≡ No }
-    ensures quiet { (hand_in pass.new).writes ≡ false }
-    ensures owes { OwesNothing pass.new }
-    ensures spin { SameSpin pass.old pass.new }
-{
-    let next = next_call(site, pass)?;
-    if next.words.mode() != Mode::Int || O::call_of(next.words).is_none() {
-        return None;
-    }
-    match site.trylock_once(pass) {
-        Ok(()) => {
-            site.unlock_once(pass);
-            None
-        }
-        Err(_) => {
-            let why = site.consume(pass)?;
-            site.note(pass, next.call, Reply::Intr);
-            Some(why)
-        }
-    }
-}
-
-/// Looks for a signal again and again, until the next call of the pass's task is recorded as
-/// interrupted or its tries run out. Answers false where that call is none that waits for signals.
-pub fn await_signal<O: Object>(site: &OwnerSite<O>, pass: &mut OwnerPass<O>) -> bool
-    requires own { SitsAt site.now pass.old }
-    requires numbered { IsSome (task_in pass.old) }
-    requires out { held_in pass.old ≡ No }
-    requires quiet { (hand_in pass.old).writes ≡ false }
-    requires owes { OwesNothing pass.old }
-    ensures own { SitsAt site.now pass.new }
-    ensures task { task_in pass.new ≡ task_in pass.old }
-    ensures out { held_in pass.new ≡ No }
-    ensures quiet { (hand_in pass.new).writes ≡ false }
-    ensures owes { OwesNothing pass.new }
-    ensures spin { SameSpin pass.old pass.new }
-{
-    if !next_call(site, pass).is_some_and(|next| next.words.mode() == Mode::Int) {
-        return false;
-    }
-    for _ in 0..TRIES {
-        if interrupt(site, pass).is_some() {
-            return true;
-        }
-        thread::yield_now();
-    }
-    true
 }
 
 /// The value that the guarded words store.

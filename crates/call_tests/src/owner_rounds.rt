@@ -4,7 +4,7 @@ ghost use Rattle.lock_core.specs.declared.view.Held.TheVariants.{No};
 ghost use Rattle.mutex_word.specs.OwnerHandles.{plan_of, hand_in, held_in, task_in, SitsAt};
 ghost use Rattle.call_tests.specs.OwnerStanding.{Idles, OwesNothing, SameSpin};
 
-use crate::owner_calls::{await_signal, perform, send, take};
+use crate::owner_calls::{perform, take};
 use lock_core::SiteLock;
 use mutex_word::{OwnerPass, OwnerSite};
 use std::alloc::{AllocError, Global};
@@ -12,8 +12,7 @@ use std::sync::Wait;
 use std::thread::{self, Threads};
 use vma_map::Areas;
 
-/// Does the task's next call: a signal is sent, a call that waits for signals is interrupted by
-/// one, and any other takes the lock.
+/// Takes the lock, does the task's next call, and releases the lock.
 fn do_next(site: &OwnerSite<Areas>, pass: &mut OwnerPass<Areas>)
     requires own { SitsAt site.now pass.old }
     requires numbered { IsSome (task_in pass.old) }
@@ -27,9 +26,6 @@ fn do_next(site: &OwnerSite<Areas>, pass: &mut OwnerPass<Areas>)
     ensures owes { OwesNothing pass.new }
     ensures spin { SameSpin pass.old pass.new }
 {
-    if send(site, pass).is_some() || await_signal(site, pass) {
-        return;
-    }
     if take(site, pass) {
         perform(site, pass);
         site.unlock_once(pass);

@@ -114,14 +114,6 @@ pub fn int_close_file(fd: u32) -> CallWords {
     }
 }
 
-/// The call `dup FD` in plain mode.
-pub fn dup_file(fd: u32) -> CallWords {
-    CallWords {
-        a: u64::from(fd),
-        b: 10,
-    }
-}
-
 /// The call `get FD` in plain mode.
 pub fn get_file(fd: u32) -> CallWords {
     CallWords {

