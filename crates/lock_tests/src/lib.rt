@@ -15,6 +15,4 @@ mod semaphore;
 #[cfg(test)]
 mod spin_lock_tests;
 #[cfg(test)]
-mod successive_leave_tests;
-#[cfg(test)]
 mod watched;

@@ -3,4 +3,3 @@ mod handoff_tests;
 mod interrupt_tests;
 mod lockers;
 mod release_tests;
-mod thread_tests;

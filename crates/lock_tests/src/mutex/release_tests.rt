@@ -3,14 +3,14 @@
 ghost use Rattle.mutex_slow.specs.MutexStanding.{IsHolder, IsReady};
 
 use super::lockers::{Three, lock_and_count, open_free, open_held};
-use crate::watched::{LOOKS, NO_TURNS, Watch, WatchedCrew, await_count};
+use crate::watched::{NO_TURNS, Watch, WatchedCrew, await_count};
 use cpu_task::{Crew, Turns};
 use lock_core::{How, Nothing};
 use mutex_slow::{Mutex, MutexPass};
 use std::alloc::{AllocError, Global};
 use std::process::Abort;
 use std::sync::Wait;
-use std::sync::atomic::Ordering;
+use std::sync::atomic::{AtomicU64, Ordering};
 use std::test::Fail;
 use std::thread::{Threads, join};
 
@@ -20,62 +20,39 @@ const MANY_TURNS: Turns = Turns {
     overdue: 0,
 };
 
-/// How far a task that waits has come when the mutex is released.
-#[derive(Clone, Copy, Debug)]
-enum Waiter {
-    Spins,
-    Queued,
-    Sleeps,
-}
-
-/// Looks until the pass's task is told that another one waits, or the looks run out.
-fn await_queued(mutex: &Mutex<Nothing>, other: &mut MutexPass<Nothing>)
-    requires { IsReady mutex.now other.old }
-{
-    for _ in 0..LOOKS {
-        if mutex.trylock_once(other) != Err(8) {
-            return;
-        }
-    }
-}
-
-/// Releases the mutex once the waiter has come so far, lets it wake, and answers how many wake
-/// words the pass has set.
+/// Releases the mutex once the counter has come so far, lets the waiter wake, and answers how many
+/// wake words the pass has set.
 fn unlock_behind<'a, W: Wait>(
     rt: &W,
     mutex: &Mutex<Nothing>,
     crew: &WatchedCrew<'a>,
     mut holder: MutexPass<Nothing>,
-    mut other: MutexPass<Nothing>,
-    waiter: Waiter,
+    counter: &AtomicU64,
+    least: u64,
 ) -> u64
-    requires holder { IsHolder mutex.now holder }
-    requires other { IsReady mutex.now other }
+    requires { IsHolder mutex.now holder }
 {
-    match waiter {
-        Waiter::Spins => await_count(&crew.watch.asked, 2),
-        Waiter::Queued => await_queued(mutex, &mut other),
-        Waiter::Sleeps => await_count(&crew.watch.sleeps, 1),
-    }
+    await_count(counter, least);
     mutex.unlock(rt, &mut holder, crew);
     crew.watch.ends.store(1, Ordering::SeqCst);
     holder.wakes()
 }
 
-/// How task 1 gets a mutex that task 0 holds until it has come so far, how often it has fallen
-/// asleep then, and how many wake words the release has set.
+/// How task 1 gets a mutex that task 0 holds until the counter has come so far, how often it has
+/// fallen asleep then, and how many wake words the release has set.
 fn behind_a_holder<R: Threads + Wait + Sync + Abort>(
     rt: &R,
     alloc: Global,
     watch: &Watch,
     turns: Turns,
-    come: Waiter,
+    counter: &AtomicU64,
+    least: u64,
 ) -> Result<((How, u64), u64), AllocError> {
     let Three {
         mutex,
         holder,
         waiter,
-        other,
+        ..
     } = open_held(rt, alloc)?;
     let mut crew = WatchedCrew { watch };
     let cpu = crew.cpu(alloc, 1, turns)?;
@@ -85,24 +62,23 @@ fn behind_a_holder<R: Threads + Wait + Sync + Abort>(
             requires { IsReady mutex waiter }
         { lock_and_count(rt, &mutex, &crew, cpu, waiter) },
         || -> u64
-            requires holder { IsHolder mutex holder }
-            requires other { IsReady mutex other }
-        { unlock_behind(rt, &mutex, &crew, holder, other, come) },
+            requires { IsHolder mutex holder }
+        { unlock_behind(rt, &mutex, &crew, holder, counter, least) },
     ))
 }
 
 #[test]
-fn a_task_that_spins_gets_the_mutex_outside_the_list_and_a_queued_one_in_it(
-    rt: HostRuntime,
-) -> Result<(), Fail> {
-    for (waiter, turns, want) in [
-        (Waiter::Spins, MANY_TURNS, How::Spun),
-        (Waiter::Queued, NO_TURNS, How::Slept),
-    ] {
-        let watch = Watch::default();
-        let ((how, _dozes), _wakes) = behind_a_holder(&rt, rt.alloc(), &watch, turns, waiter)?;
-        assert!(rt; how == want, "{waiter:?}");
-    }
+fn a_task_that_spins_gets_the_mutex_outside_the_list(rt: HostRuntime) -> Result<(), Fail> {
+    let watch = Watch::default();
+    let ((how, _dozes), _wakes) = behind_a_holder(
+        &rt,
+        rt.alloc(),
+        &watch,
+        MANY_TURNS,
+        &watch.asked,
+        2,
+    )?;
+    assert!(rt; how == How::Spun);
     Ok(())
 }
 
@@ -111,7 +87,14 @@ fn a_release_sets_one_wake_word_and_wakes_the_first_waiter_once(
     rt: HostRuntime,
 ) -> Result<(), Fail> {
     let watch = Watch::default();
-    let ((how, dozes), wakes) = behind_a_holder(&rt, rt.alloc(), &watch, NO_TURNS, Waiter::Sleeps)?;
+    let ((how, dozes), wakes) = behind_a_holder(
+        &rt,
+        rt.alloc(),
+        &watch,
+        NO_TURNS,
+        &watch.sleeps,
+        1,
+    )?;
     assert!(rt; how == How::Slept);
     assert!(rt; dozes >= 1);
     assert!(rt; wakes == 1);
