@@ -3,21 +3,21 @@ ghost use Rattle.std.specs.Prelude.{◌≡◌, length, IfOk};
 ghost use Rattle.lock_core.specs.Records.{IsPlan};
 ghost use Rattle.vma_map.specs.Spaces.{space};
 
-use crate::seq_calls::{fault, map, push_all, touch, unmap, write};
-use lock_core::{Held, Plan, SiteLock};
+use crate::seq_calls::{fault, map, push_all, touch, write};
+use lock_core::{Plan, SiteLock};
 use seq_fault::{Raced, SeqSpace};
 use std::alloc::Global;
 use std::test::Fail;
 use word_bits::Reply;
 
-/// Two tasks, of which one changes the space and the other touches three pages.
+/// Two tasks, of which one maps pages and the other touches two.
 fn planned(alloc: Global) -> Result<Plan, Fail>
     ensures tasks { IfOk result (λ plan. length plan ≡ 2) }
     ensures calls { IfOk result (λ plan. IsPlan space plan) }
 {
     let mut plan = Plan::new(alloc, 2)?;
-    push_all(&mut plan, 0, &[map(16, 4), unmap(17, 1)])?;
-    push_all(&mut plan, 1, &[touch(17, 2), touch(20, 1), touch(17, 1)])?;
+    push_all(&mut plan, 0, &[map(16, 4)])?;
+    push_all(&mut plan, 1, &[touch(17, 2), touch(20, 1)])?;
     Ok(plan)
 }
 
@@ -30,7 +30,7 @@ fn a_fault_reads_what_was_written(rt: HostRuntime) -> Result<(), Fail> {
     site.begin(&rt, &mut one, 1);
     assert!(rt; write(&site, &rt, &mut zero) == Some(Reply::Num(16)));
     assert!(rt; fault(&site, &mut one) == Some(Ok(Reply::Good)));
-    assert!(rt; (site.held(&one), site.done(&one), site.front(&one)) == (Held::No, 1, 1));
+    assert!(rt; site.front(&one) == 1);
     site.enter(&rt, &mut zero);
     let raced = Raced {
         before: 3,
@@ -40,13 +40,9 @@ fn a_fault_reads_what_was_written(rt: HostRuntime) -> Result<(), Fail> {
     assert!(rt; site.done(&one) == 1);
     site.leave(&mut zero);
     assert!(rt; fault(&site, &mut one) == Some(Ok(Reply::MapErr)));
-    assert!(rt; write(&site, &rt, &mut zero) == Some(Reply::Good));
-    assert!(rt; fault(&site, &mut one) == Some(Ok(Reply::MapErr)));
-    assert!(rt; (site.done(&one), site.front(&one)) == (3, 2));
     site.end(&mut one);
     site.gather(&mut zero, one);
     site.recall(&mut zero);
     site.end(&mut zero);
-    assert!(rt; (site.task(&zero), site.front(&zero)) == (None, 2));
     Ok(())
 }
