@@ -1,11 +1,11 @@
-//! Scripts as values, and sources and sinks in memory and over streams that fail. What the program
-//! reads and writes stands in examples/.
+//! Scripts as values, sources and sinks in memory and over streams that fail, and a generated
+//! script. What the program reads and writes stands in examples/.
 use byte_streams::{Failed, MemSink, MemSource, Outbox, ReadSource, Sink, Source, WriteSink, put};
 use std::alloc::Global;
 use std::io::{self, ErrorKind, Read, Write};
 use std::process::Abort;
 use std::test::Fail;
-use task_script::{Line, read, write};
+use task_script::{Line, generate, read, write};
 
 #[test]
 fn keeps_what_it_reads(rt: HostRuntime) -> Result<(), Fail> {
@@ -218,4 +218,14 @@ fn streams_answer_a_failure_of_each_kind_at_once_and_go_on(rt: HostRuntime) {
         assert!(rt; put_through(&mut writer) == (Err(Failed), 1), "{kind:?}");
         assert!(rt; put_through(&mut writer) == (Ok(()), 3), "{kind:?}");
     }
+}
+
+#[test]
+fn generates_by_numbers(rt: HostRuntime) -> Result<(), Fail> {
+    let script = generate(rt.alloc(), 7)?;
+    let mut sink = MemSink::new(rt.alloc(), 399_999, 4_096, &[])?;
+    write(&script, &mut sink)?;
+    let front = "space m\ntask\nm protect 21 1 -w-\nm fault 1 x\nm map 16 5 --x\n";
+    assert!(rt; sink.written().starts_with(front.as_bytes()));
+    Ok(())
 }
